@@ -1,0 +1,42 @@
+-- The Rattle values that are lent and handed back, in the numbers and values of document 01. A promise says that what is said by the
+-- result is what the call's definition answers, and that the buffer is what it leaves.
+use mathlib.Core.Path.{_≡_}
+use Prim.Native.Nat.{ℕ}
+use mathlib.Core.List.{List}
+use Rattle.walk.specs.declared.Network as network
+use Rattle.walk.specs.declared.Condition as condition
+use Rattle.walk.specs.declared.Ask.{Ask}
+use Rattle.walk.specs.declared.Move.{Move}
+use Rattle.walk.specs.declared.Prepared.{Prepared}
+use Rattle.walk.specs.declared.Prepared.the-variants as prepared
+use Rattle.walk.specs.declared.First.{First}
+use Rattle.walk.specs.declared.First.the-variants as first
+use Rattle.walk.specs.declared.Next.{Next}
+use Rattle.walk.specs.declared.Next.the-variants as next
+use Rattle.walk.specs.Refusals.{Question, number}
+use Rattle.walk.specs.Calls.{Answer, refused, gives, Progress, Reply, Chain, NoChain, End, Done}
+
+-- what is lent, as the definitions speak of it
+abbrev pub question : network.Network → condition.Condition → Ask → List ℕ → List ℕ → List ℕ → List Move → Question
+question n c a froms tos sets moves =
+    record { network = record { marks = n .marks; kinds = n .kinds; froms = froms; tos = tos; sets = sets }; condition = record { states = c .states; start = c .start; accept = c .accept; moves = moves }; from = a .from; to = a .to }
+
+-- what each case of an answer says
+abbrev pub saidPrepared : Prepared → Answer Progress
+saidPrepared (prepared.After r s) = gives (record { done = r .done; status = s })
+saidPrepared (prepared.Refused n p) = refused (number n) p
+
+abbrev pub saidFirst : First → Answer Reply
+saidFirst first.Chain = gives Chain
+saidFirst first.None = gives NoChain
+saidFirst (first.Refused n p) = refused (number n) p
+
+abbrev pub saidNext : Next → Answer Reply
+saidNext next.Chain = gives Chain
+saidNext next.End = gives End
+saidNext (next.Refused n p) = refused (number n) p
+
+-- the promise: a call answered a and left the words w in its buffer, as its definition d says
+pub record Meets {A : Type 0} (d : Done A) (a : Answer A) (w : List ℕ) : Type 0 where
+  pub answers : a ≡ d .answer
+  pub leaves : w ≡ d .left

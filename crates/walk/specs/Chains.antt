@@ -1,0 +1,66 @@
+-- The list: all matching chains of one length, in the order.
+use Prim.Native.Nat.{ℕ, zero, suc}
+use mathlib.Core.Bool.{Bool, true, false, _||_}
+use mathlib.Core.List.{List, [], _∷_, _++_, map}
+use mathlib.Core.Option.{Option, none, some}
+use lib.Dec.{ltb, eqb}
+use Rattle.walk.specs.Numbers.{has, _and_, pick, anyBelow, table, setBelow, same}
+use Rattle.walk.specs.Network.{Network, ties, fromOf, toOf}
+use Rattle.walk.specs.Condition.{Condition, accepts}
+use Rattle.walk.specs.Area.{leads}
+
+-- 01: "of two chains of equal length, look at the last place where they differ; the smaller tie number there comes first": c comes
+-- before d
+unfoldable pub before : List ℕ → List ℕ → Bool
+before [] d = false
+before (x ∷ xs) [] = false
+before (x ∷ xs) (y ∷ ys) = before xs ys || (same xs ys and ltb x y)
+
+-- all rows of n numbers below b in the order: behind each first number each shorter row, the first number varying fastest
+unfoldable pub joined : List (List (List ℕ)) → List (List ℕ)
+joined [] = []
+joined (x ∷ xs) = x ++ joined xs
+
+unfoldable pub rows : ℕ → ℕ → List (List ℕ)
+rows b zero = [] ∷ []
+rows b (suc n) = joined (map (λ c. table b (λ e. e ∷ c)) (rows b n))
+
+-- those rows of a list that pass, in their order
+unfoldable pub sieve : (List ℕ → Bool) → List (List ℕ) → List (List ℕ)
+sieve p [] = []
+sieve p (x ∷ xs) = pick (p x) (x ∷ sieve p xs) (sieve p xs)
+
+-- a row of a list, its first row, and the row after c
+unfoldable pub member : List ℕ → List (List ℕ) → Bool
+member c [] = false
+member c (x ∷ xs) = same x c || member c xs
+
+unfoldable pub firstOf : List (List ℕ) → Option (List ℕ)
+firstOf [] = none
+firstOf (x ∷ xs) = some x
+
+unfoldable pub afterOf : List ℕ → List (List ℕ) → Option (List ℕ)
+afterOf c [] = none
+afterOf c (x ∷ xs) = pick (same x c) (firstOf xs) (afterOf c xs)
+
+module _ (N : Network) (C : Condition) where
+  -- the chain c joins s to t
+  unfoldable pub joins : ℕ → List ℕ → ℕ → Bool
+  joins s [] t = eqb s t
+  joins s (e ∷ c) t = ltb e (ties N) and eqb (fromOf N e) s and joins (toOf N e) c t
+
+  -- the set of states that follow the set S along a tie, and along a chain
+  unfoldable pub along : ℕ → ℕ → ℕ
+  along S e = setBelow (C .states) (λ q. anyBelow (C .states) (λ p. has S p and leads N C e p q))
+
+  unfoldable pub reached : ℕ → List ℕ → ℕ
+  reached S [] = S
+  reached S (e ∷ c) = reached (along S e) c
+
+  -- the chain c joins s to t and matches
+  unfoldable pub matches : ℕ → ℕ → List ℕ → Bool
+  matches s t c = joins s c t and anyBelow (C .states) (λ q. accepts C q and has (reached (C .start) c) q)
+
+  -- all matching chains of length n from s to t, in the order
+  unfoldable pub list : ℕ → ℕ → ℕ → List (List ℕ)
+  list s t n = sieve (matches s t) (rows (ties N) n)

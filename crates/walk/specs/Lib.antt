@@ -1,0 +1,12 @@
+pub mod Ceilings
+pub mod Numbers
+pub mod Network
+pub mod Condition
+pub mod Walk
+pub mod Area
+pub mod Chains
+pub mod Refusals
+pub mod Calls
+pub mod Answers
+pub mod Sessions
+pub mod Cases
