@@ -10,3 +10,4 @@ pub mod Calls
 pub mod Answers
 pub mod Sessions
 pub mod Cases
+pub mod OwnCases
