@@ -5,3 +5,6 @@ pub mod Executable
 pub mod Words
 pub mod Areas
 pub mod Lengths
+pub mod Statuses
+pub mod Order
+pub mod Listings

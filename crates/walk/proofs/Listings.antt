@@ -1,0 +1,43 @@
+-- The list holds exactly the paper's chains: those of its length that join s to t and match; at the least length, the listed ones. It rises in
+-- the order, so each stands once.
+use Prim.Native.Nat.{ℕ, _≤_, _<_}
+use mathlib.Core.Path.{_≡_, refl, sym, subst}
+use mathlib.Core.List.{List, [], _∷_, List·Memᴰ}
+use mathlib.Core.Logic.{_↔_}
+use native.Mathlib.Omega.{arith}
+use lib.ListN.{length}
+use Rattle.walk.specs.Network.{Network, ties, toOf}
+use Rattle.walk.specs.Condition.{Condition}
+use Rattle.walk.specs.Walk.{Joins, Matches, Shortest, Listed}
+use Rattle.walk.specs.Chains.{rows, sieve, matches, list}
+use Rattle.walk.proofs.Executable.{Sound, matches-law}
+use Rattle.walk.proofs.Order.{Sorted, Below, mem-rows, rows-mem, sorted-rows, sieve-mem, mem-sieve, sorted-sieve}
+
+module _ (N : Network) (C : Condition) (s t n : ℕ) where
+  pub list-rises : Sorted (list N C s t n)
+  unfolding list
+  list-rises = sorted-sieve (matches N C s t) _ (sorted-rows (ties N) n)
+
+  joins-below : (u : ℕ) (c : List ℕ) → Joins N u c t → Below (ties N) c
+  joins-below u [] h = tt
+  joins-below u (e ∷ c) h = (h .0, joins-below (toOf N e) c (h .2))
+
+  module _ (ok : Sound N C) where
+    pub list-law : (c : List ℕ) → List·Memᴰ c (list N C s t n) ↔ ((length c ≡ n) × Joins N s c t × Matches N C c)
+    unfolding list
+    list-law c = (
+      λ m. let (a, b) = sieve-mem (matches N C s t) (rows (ties N) n) c m in
+          let (j, x) = matches-law N C ok s t c .0 b in
+          (rows-mem (ties N) n c a, j, x),
+      λ (l, j, x). mem-sieve (matches N C s t) (rows (ties N) n) c (rw l at (mem-rows (ties N) c (joins-below s c j))) (matches-law N C ok s t c .1 (j, x)),
+    )
+
+    -- at the least length the list holds exactly the listed chains (000, definition 8)
+    pub listed-law : Shortest N C s t n → (c : List ℕ) → List·Memᴰ c (list N C s t n) ↔ Listed N C s t c
+    listed-law S c = (
+      λ m. let (l, j, x) = list-law c .0 m in record { joins = j; matches = x; shortest = subst (λ (k : ℕ). Shortest N C s t k) (sym l) S },
+      λ L. let (d, l, (j, x)) = S .met in
+          let a = L .shortest .least d (j, x) in
+          let b = S .least c (L .joins, L .matches) in
+          list-law c .1 (omega arith, L .joins, L .matches),
+    )
