@@ -8,3 +8,4 @@ pub mod Lengths
 pub mod Statuses
 pub mod Order
 pub mod Listings
+pub mod Back

@@ -234,12 +234,12 @@ before-split (a ∷ h) (b ∷ f) u v l o =
     inr (y, or-right (before h f) _ (and-of (same-of x) q)))
     (or-in (before (h ++ u) (f ++ v)) _ o)
 
-before-cons : (x y : ℕ) (d e : List ℕ) → Yes (before (x ∷ d) (y ∷ e)) → Yes (before d e) ⊎ ((d ≡ e) × (x < y))
+pub before-cons : (x y : ℕ) (d e : List ℕ) → Yes (before (x ∷ d) (y ∷ e)) → Yes (before d e) ⊎ ((d ≡ e) × (x < y))
 unfolding before
 before-cons x y d e o = ⊎-elim (λ h. inl h) (λ h. let (p, q) = and-in _ _ h in inr (same-eq d e p, ltb-true x y q)) (or-in (before d e) _ o)
 
 -- a row f y e that stands after h x d, and before g z d
-squeeze : (h f g : List ℕ) (x y z : ℕ) (d e : List ℕ) → length h ≡ length f → length f ≡ length g
+pub squeeze : (h f g : List ℕ) (x y z : ℕ) (d e : List ℕ) → length h ≡ length f → length f ≡ length g
     → Yes (before (h ++ (x ∷ d)) (f ++ (y ∷ e))) → Yes (before (f ++ (y ∷ e)) (g ++ (z ∷ d)))
     → (_≡_ {A = List ℕ} (x ∷ d) (y ∷ e)) ⊎ ((d ≡ e) × (x < y) × ((y < z) ⊎ (y ≡ z)))
 squeeze h f g x y z d e lh lf o p = low (before-split h f (x ∷ d) (y ∷ e) lh o)
