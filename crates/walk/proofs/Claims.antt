@@ -14,11 +14,11 @@ use Rattle.walk.specs.OwnCases.{own}
 
 -- THE CLAIM: each session goes as the table says
 pub sessions : map run starred ≡ starred
-unfolding starred run play has _and_ anyBelow least table setBelow tally same usable starts accepts follows A.leads A.reach A.word A.area A.front A.nearest A.status C.joined C.rows C.sieve C.member C.firstOf C.afterOf C.joins C.along C.reached C.matches C.list R.right R.status R.listing R.sizes R.badTie R.tieOrder R.badCondition R.badMove R.badEnds R.shortArea R.wrongArea R.unfinished R.shortChain R.notListed R.start-tests R.round-tests R.first-tests R.next-tests K.judged K.prepared K.start K.round K.first K.next
+unfolding starred run play has _and_ anyBelow least table setBelow tally same usable starts accepts follows A.leads A.reach A.word A.area A.front A.nearest A.status C.joined C.rows C.sieve C.member C.firstOf C.afterOf C.joins C.along C.reached C.matches C.list R.right R.status R.listing R.sizes R.badTie R.tieOrder R.badCondition R.badMove R.badEnds R.shortArea R.wrongArea R.unfinished R.shortChain R.notListed R.lent-tests R.start-tests R.round-tests R.first-tests R.next-tests K.judged K.prepared K.start K.round K.first K.next
 sessions = refl
 
 pub own-sessions : map run own ≡ own
-unfolding own run play has _and_ anyBelow least table setBelow tally same usable starts accepts follows A.leads A.reach A.word A.area A.front A.nearest A.status C.joined C.rows C.sieve C.member C.firstOf C.afterOf C.joins C.along C.reached C.matches C.list R.right R.status R.listing R.sizes R.badTie R.tieOrder R.badCondition R.badMove R.badEnds R.shortArea R.wrongArea R.unfinished R.shortChain R.notListed R.start-tests R.round-tests R.first-tests R.next-tests K.judged K.prepared K.start K.round K.first K.next
+unfolding own run play has _and_ anyBelow least table setBelow tally same usable starts accepts follows A.leads A.reach A.word A.area A.front A.nearest A.status C.joined C.rows C.sieve C.member C.firstOf C.afterOf C.joins C.along C.reached C.matches C.list R.right R.status R.listing R.sizes R.badTie R.tieOrder R.badCondition R.badMove R.badEnds R.shortArea R.wrongArea R.unfinished R.shortChain R.notListed R.lent-tests R.start-tests R.round-tests R.first-tests R.next-tests K.judged K.prepared K.start K.round K.first K.next
 own-sessions = refl
 
 -- 01, case 3: "Chain 0 3 can be met in four ways and stands once."

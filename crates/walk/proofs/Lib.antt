@@ -9,3 +9,5 @@ pub mod Statuses
 pub mod Order
 pub mod Listings
 pub mod Back
+pub mod Refusals
+pub mod Demand1

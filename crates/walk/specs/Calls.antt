@@ -40,6 +40,11 @@ unfoldable pub judged : {A : Type 0} → List Row → List ℕ → Done A → Do
 judged [] w d = d
 judged (x ∷ xs) w d = elim (x .given) [ true ↦ record { answer = refused (number (x .name)) (x .place); left = w } | false ↦ judged xs w d ]
 
+-- the chain d is written over the front of the buffer. 01: "Words past the least length stay as they were."
+abbrev pub put : Reply → List ℕ → Option (List ℕ) → Done Reply
+put nothing c none = leave nothing c
+put nothing c (some d) = leave Chain (d ++ drop (length d) c)
+
 module _ (D : Question) where
   -- the right area for r rounds is written. 01: "Words after the first V×Q are never written."
   unfoldable pub prepared : ℕ → List ℕ → Done Progress
@@ -50,11 +55,6 @@ module _ (D : Question) where
   stepped r w (Found n) = leave (record { done = r; status = Found n }) w
   stepped r w None = leave (record { done = r; status = None }) w
   stepped r w Going = prepared (suc r) w
-
-  -- the chain d is written over the front of the buffer. 01: "Words past the least length stay as they were."
-  abbrev pub put : Reply → List ℕ → Option (List ℕ) → Done Reply
-  put nothing c none = leave nothing c
-  put nothing c (some d) = leave Chain (d ++ drop (length d) c)
 
   -- 01: "First gives the earliest chain in the order, or says None and writes nothing."
   abbrev pub earliest : List ℕ → Status → Done Reply

@@ -143,9 +143,12 @@ module _ (D : Question) where
   notListed r c =
       let n = lengthOf (status D r) in row NotListed (isNone (status D r) || not (Chains.member (take n c) (listing D n))) 0
 
-  -- 01: "Start gives 1 to 7, a round 1 to 8, first 1 to 10, next all."
+  -- 01: "Start gives 1 to 7, a round 1 to 8, first 1 to 10, next all." The first six look at no buffer.
+  unfoldable pub lent-tests : List Row
+  lent-tests = sizes ∷ badTie ∷ tieOrder ∷ badCondition ∷ badMove ∷ badEnds ∷ []
+
   unfoldable pub start-tests : List ℕ → List Row
-  start-tests w = sizes ∷ badTie ∷ tieOrder ∷ badCondition ∷ badMove ∷ badEnds ∷ shortArea w ∷ []
+  start-tests w = lent-tests ++ (shortArea w ∷ [])
 
   unfoldable pub round-tests : ℕ → List ℕ → List Row
   round-tests r w = start-tests w ++ (wrongArea r w ∷ [])
