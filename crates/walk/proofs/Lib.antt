@@ -11,3 +11,4 @@ pub mod Listings
 pub mod Back
 pub mod Refusals
 pub mod Demand1
+pub mod Demand2
