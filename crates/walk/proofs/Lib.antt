@@ -12,3 +12,4 @@ pub mod Back
 pub mod Refusals
 pub mod Demand1
 pub mod Demand2
+pub mod Demand3

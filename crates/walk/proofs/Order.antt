@@ -172,6 +172,17 @@ after-here : (c : List ℕ) (xs : List (List ℕ)) → afterOf c (c ∷ xs) ≡ 
 unfolding afterOf
 after-here c xs = rw (same-refl c)
 
+-- in a list that rises, each row stands once, and the row after c is the first of what stands behind it
+pub stands-once : (xs : List (List ℕ)) (c : List ℕ) (ys : List (List ℕ)) → Sorted (xs ++ (c ∷ ys)) → (List·Memᴰ c xs → ⊥) × (List·Memᴰ c ys → ⊥)
+stands-once [] c ys h = (λ m. List·Memᴰ·not-nil m, λ m. before-irrefl c (h .0 c m))
+stands-once (x ∷ xs) c ys h =
+    let (f, g) = stands-once xs c ys (h .1) in
+    (λ m. ⊎-elim (λ e. before-irrefl x (rw e at (h .0 c (Memᴰ·append-right xs (List·Memᴰ·head refl))))) f (List·Memᴰ·cases-cons m), g)
+
+pub after-split : (xs : List (List ℕ)) (c : List ℕ) (ys : List (List ℕ)) → Sorted (xs ++ (c ∷ ys)) → afterOf c (xs ++ (c ∷ ys)) ≡ firstOf ys
+after-split [] c ys h = after-here c ys
+after-split (x ∷ xs) c ys h = after-step c x (xs ++ (c ∷ ys)) (λ e. stands-once (x ∷ xs) c ys h .0 (List·Memᴰ·head (sym e))) ∙ after-split xs c ys (h .1)
+
 pub next-is : (l : List (List ℕ)) (c d : List ℕ) → Sorted l → List·Memᴰ c l → List·Memᴰ d l → Yes (before c d) → ((x : List ℕ) → List·Memᴰ x l → Yes (before c x) → Yes (before x d) → ⊥) → afterOf c l ≡ some d
 next-is [] c d h m k b n = absurd (List·Memᴰ·not-nil m)
 next-is (x ∷ xs) c d h m k b n = go (List·Memᴰ·cases-cons m) (List·Memᴰ·cases-cons k) (λ i j. next-is xs c d (h .1) i j b (λ y ym. n y (List·Memᴰ·tail ym)))

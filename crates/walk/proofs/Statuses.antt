@@ -15,12 +15,12 @@ use Rattle.walk.specs.Numbers.{_and_, pick, anyBelow, least}
 use Rattle.walk.specs.Network.{Network}
 use Rattle.walk.specs.Condition.{Condition, accepts}
 use Rattle.walk.specs.Walk.{Joins, Matches, Shortest}
-use Rattle.walk.specs.Area.{reach, word, front, nearest, status}
+use Rattle.walk.specs.Area.{pairs, reach, word, front, nearest, status}
 use Rattle.walk.proofs.Tests.{Yes, and-in, and-of, eqb-of, anyBelow-in, anyBelow-of, Least, least-is, same-least}
 use Rattle.walk.proofs.Executable.{Sound, reach-law}
 use Rattle.walk.proofs.Words.{unreached, word-is}
 use Rattle.walk.proofs.Areas.{front-law}
-use Rattle.walk.proofs.Lengths.{Dist, word-dist, dist-word, level}
+use Rattle.walk.proofs.Lengths.{Dist, dist-bound, word-dist, dist-word, level}
 
 -- the least number that a test passes below some bound, where one is given
 pub descend : (p : ℕ → Bool) (m : ℕ) → Yes (p m) → (d : ℕ) × (d ≤ m) × Yes (p d) × ((i : ℕ) → i < d → Yes (p i) → ⊥)
@@ -64,6 +64,13 @@ module _ (N : Network) (C : Condition) (s t : ℕ) (ok : Sound N C) where
         let (q, a, h) = match-reach c j m in
         record { met = (q, a, subst (λ (n : ℕ). Yes (reach N C s n t q)) l h); least = λ m q l a h. let (c′, l′, x) = reach-match m q a h in let y = S .least c′ x in omega arith },
   )
+
+  -- 01: "A least length is at most V×Q - 1"
+  pub shortest-bound : (d : ℕ) → t < N .marks → Shortest N C s t d → d < pairs N C
+  shortest-bound d t-in S =
+      let B = best-law d .1 S in
+      let (q, a, h) = B .met in
+      dist-bound N C s ok d t q (record { met = h; least = λ m l x. B .least m q l a x }) t-in (ok .accept-in q a)
 
   -- some accepting state at t is reached by a chain of length m
   ending : ℕ → Bool

@@ -1,0 +1,150 @@
+-- Demand 3: "asking for the first chain and handing each one back for the next yields every matching chain of least length, each exactly once,
+-- nothing else, in order of tie number compared from the last tie backwards, and then "end". Any chain of that list, handed back at any time, gets
+-- the one after it, and the last gets "end"."
+-- The list at the least length holds the listed chains and rises in the order; first gives its first, and next the one after.
+use Prim.Native.Nat.{ℕ, zero, suc, _+_, _≤_, _<_}
+use mathlib.Core.Path.{_≡_, refl, sym, _∙_, subst, ap}
+use mathlib.Core.Bool.{Bool, true, false, not}
+use mathlib.Core.List.{List, [], _∷_, _++_, append-assoc, List·Memᴰ, List·Memᴰ·head, List·Memᴰ·tail, List·Memᴰ·not-nil, List·Memᴰ·cases-cons, Memᴰ·append-right}
+use mathlib.Core.Option.{Option, none, some}
+use mathlib.Core.Logic.{_↔_, _⊎_, inl, inr, ⊎-elim}
+use native.Mathlib.Omega.{arith}
+use lib.Dec.{ltb}
+use lib.ListN.{length, take, drop, length-append}
+use lib.Seq.{take-at, drop-at}
+use borrow.Author.Tests.{le-ltb}
+use Rattle.walk.specs.declared.Status.{Status}
+use Rattle.walk.specs.declared.Status.the-variants.{Found, None, Going}
+use Rattle.walk.specs.Network.{Network, usable}
+use Rattle.walk.specs.Condition.{Condition}
+use Rattle.walk.specs.Walk.{Joins, Matches, Shortest, Listed}
+use Rattle.walk.specs.Chains.{before, member, firstOf, afterOf}
+use Rattle.walk.specs.Refusals.{Question, Row, pairs, right, status, listing, unfinished, shortChain, notListed, lengthOf, isGoing, isNone, start-tests, round-tests, first-tests, next-tests}
+use Rattle.walk.specs.Calls.{Reply, Chain, NoChain, End, Done, leave, judged, put, earliest, later, first, next}
+use Rattle.walk.proofs.Order.{Sorted, member-law, stands-once, after-split}
+use Rattle.walk.proofs.Listings.{list-law, listed-law, list-rises}
+use Rattle.walk.proofs.Refusals.{NoneGiven, none-append, none-one, judged-none, Ready, ready, start-passes, round-passes}
+use Rattle.walk.proofs.Demand2.{Made, found-short, finished}
+
+module _ (D : Question) (r : ℕ) (a : List ℕ) where
+  -- next, handed the chain c in front of x and then each chain that it puts there, gives the chains l and then End; x stays
+  pub data Yields (x : List ℕ) : List ℕ → List (List ℕ) → Type 0 where
+    ends : {c : List ℕ} → next D r a (c ++ x) ≡ leave End (c ++ x) → Yields x c []
+    more : {c y : List ℕ} {l : List (List ℕ)} → next D r a (c ++ x) ≡ leave Chain (y ++ x) → Yields x y l → Yields x c (y ∷ l)
+
+  abbrev N : Network
+  N = usable (D .network)
+
+  abbrev C : Condition
+  C = D .condition
+
+  -- the list that first and next give, where n is the least length
+  pub record Lists (n : ℕ) : Type 0 where
+    pub chains : List (List ℕ)
+    -- every matching chain of least length, and nothing else
+    pub all : (c : List ℕ) → List·Memᴰ c chains ↔ Listed N C (D .from) (D .to) c
+    -- in the order, each exactly once
+    pub rises : Sorted chains
+    pub once : (xs : List (List ℕ)) (c : List ℕ) (ys : List (List ℕ)) → chains ≡ xs ++ (c ∷ ys) → (List·Memᴰ c xs → ⊥) × (List·Memᴰ c ys → ⊥)
+    -- asking for the first and handing each one back yields them all and then End
+    pub session : (b : List ℕ) → n ≤ length b → (c : List ℕ) × (l : List (List ℕ)) × (chains ≡ c ∷ l) × (first D r a b ≡ leave Chain (c ++ drop n b)) × Yields (drop n b) c l
+    -- any of them handed back gets the one after it, and the last gets End
+    pub after : (xs : List (List ℕ)) (c y : List ℕ) (ys : List (List ℕ)) (x : List ℕ) → chains ≡ xs ++ (c ∷ (y ∷ ys)) → next D r a (c ++ x) ≡ leave Chain (y ++ x)
+    pub last : (xs : List (List ℕ)) (c x : List ℕ) → chains ≡ xs ++ (c ∷ []) → next D r a (c ++ x) ≡ leave End (c ++ x)
+
+  module _ (passes : NoneGiven (round-tests D r a)) (n : ℕ) (S : status D r ≡ Found n) where
+    R : Ready D
+    R = ready D (start-passes D a .0 (round-passes D r a .0 passes .0) .0)
+
+    short : Shortest N C (D .from) (D .to) n
+    short =
+        let (_, (h, _)) = round-passes D r a .0 passes in
+        let f = R .few in
+        found-short D R r n (omega arith) S .1
+
+    first-passes : (b : List ℕ) → n ≤ length b → NoneGiven (first-tests D r a b)
+    unfolding first-tests unfinished shortChain
+    first-passes b l =
+        none-append (round-tests D r a) _ .1
+        (passes, none-append (unfinished D r ∷ []) (shortChain D r b ∷ []) .1
+        (none-one (unfinished D r) .1 (rw S), none-one (shortChain D r b) .1 (rw S (le-ltb (length b) n l))))
+
+    next-passes : (b : List ℕ) → n ≤ length b → List·Memᴰ (take n b) (listing D n) → NoneGiven (next-tests D r a b)
+    unfolding next-tests notListed
+    next-passes b l m =
+        none-append (first-tests D r a b) _ .1 (first-passes b l, none-one (notListed D r b) .1 (rw (S, member-law (take n b) (listing D n) .1 m)))
+
+    listed : (c : List ℕ) → List·Memᴰ c (listing D n) ↔ Listed N C (D .from) (D .to) c
+    unfolding listing
+    listed c = listed-law N C (D .from) (D .to) n (R .sound) short c
+
+    long : (c : List ℕ) → List·Memᴰ c (listing D n) → length c ≡ n
+    unfolding listing
+    long c m = list-law N C (D .from) (D .to) n (R .sound) c .0 m .0
+
+    rising : Sorted (listing D n)
+    unfolding listing
+    rising = list-rises N C (D .from) (D .to) n
+
+    some-chain : (l : List (List ℕ)) → listing D n ≡ l → (c : List ℕ) × (k : List (List ℕ)) × (listing D n ≡ c ∷ k)
+    unfolding listing
+    some-chain [] e = let (c, k, (j, x)) = short .met in absurd (List·Memᴰ·not-nil (subst (λ (l : List (List ℕ)). List·Memᴰ c l) e (list-law N C (D .from) (D .to) n (R .sound) c .1 (k, j, x))))
+    some-chain (c ∷ k) e = (c, k, e)
+
+    first-gives : (b c : List ℕ) (k : List (List ℕ)) → n ≤ length b → listing D n ≡ c ∷ k → first D r a b ≡ leave Chain (c ++ drop n b)
+    unfolding first firstOf
+    first-gives b c k l e =
+        judged-none b (earliest D b (status D r)) (first-tests D r a b) (first-passes b l)
+        ∙ ap (λ (T : Status). earliest D b T) S
+        ∙ ap (λ (x : List (List ℕ)). put NoChain b (firstOf x)) e
+        ∙ ap (λ (i : ℕ). leave Chain (c ++ drop i b)) (long c (subst (λ (x : List (List ℕ)). List·Memᴰ c x) (sym e) (List·Memᴰ·head refl)))
+
+    next-gives : (xs : List (List ℕ)) (c : List ℕ) (k : List (List ℕ)) (x : List ℕ) → listing D n ≡ xs ++ (c ∷ k) → next D r a (c ++ x) ≡ put End (c ++ x) (firstOf k)
+    unfolding next
+    next-gives xs c k x e =
+        judged-none (c ++ x) (later D (c ++ x) (status D r)) (next-tests D r a (c ++ x)) (next-passes (c ++ x) room (rw front m))
+        ∙ ap (λ (T : Status). later D (c ++ x) T) S
+        ∙ ap (λ (d : List ℕ). put End (c ++ x) (afterOf d (listing D n))) front
+        ∙ ap (λ (l : List (List ℕ)). put End (c ++ x) (afterOf c l)) e
+        ∙ ap (λ (o : Option (List ℕ)). put End (c ++ x) o) (after-split xs c k (subst (λ (l : List (List ℕ)). Sorted l) e rising))
+      where
+        m : List·Memᴰ c (listing D n)
+        m = subst (λ (l : List (List ℕ)). List·Memᴰ c l) (sym e) (Memᴰ·append-right xs (List·Memᴰ·head refl))
+
+        front : take n (c ++ x) ≡ c
+        front = take-at c x n (long c m)
+
+        room : n ≤ length (c ++ x)
+        room = let l = long c m in let y = length-append c x in omega arith
+
+    put-chain : (c y x : List ℕ) → length c ≡ n → length y ≡ n → put End (c ++ x) (some y) ≡ leave Chain (y ++ x)
+    put-chain c y x l k = ap (λ (i : ℕ). leave Chain (y ++ drop i (c ++ x))) k ∙ ap (λ (d : List ℕ). leave Chain (y ++ d)) (drop-at c x n l)
+
+    after-gives : (xs : List (List ℕ)) (c y : List ℕ) (ys : List (List ℕ)) (x : List ℕ) → listing D n ≡ xs ++ (c ∷ (y ∷ ys)) → next D r a (c ++ x) ≡ leave Chain (y ++ x)
+    unfolding firstOf
+    after-gives xs c y ys x e =
+        let at : (d : List ℕ) → List·Memᴰ d (c ∷ (y ∷ ys)) → length d ≡ n = λ d m. long d (subst (λ (l : List (List ℕ)). List·Memᴰ d l) (sym e) (Memᴰ·append-right xs m)) in
+        next-gives xs c (y ∷ ys) x e ∙ put-chain c y x (at c (List·Memᴰ·head refl)) (at y (List·Memᴰ·tail (List·Memᴰ·head refl)))
+
+    last-gives : (xs : List (List ℕ)) (c x : List ℕ) → listing D n ≡ xs ++ (c ∷ []) → next D r a (c ++ x) ≡ leave End (c ++ x)
+    unfolding firstOf
+    last-gives xs c x e = next-gives xs c [] x e
+
+    yields : (k xs : List (List ℕ)) (c x : List ℕ) → listing D n ≡ xs ++ (c ∷ k) → Yields x c k
+    yields [] xs c x e = ends (last-gives xs c x e)
+    yields (y ∷ k) xs c x e = more (after-gives xs c y k x e) (yields k (xs ++ (c ∷ [])) y x (e ∙ sym (append-assoc xs (c ∷ []) (y ∷ k))))
+
+    pub lists : Lists n
+    lists = record {
+      chains = listing D n;
+      all = listed;
+      rises = rising;
+      once = λ xs c ys e. stands-once xs c ys (subst (λ (l : List (List ℕ)). Sorted l) e rising);
+      session = λ b l. (let (c, k, e) = some-chain (listing D n) refl in (c, k, e, first-gives b c k l e, yields k [] c (drop n b) e));
+      after = after-gives;
+      last = last-gives;
+    }
+
+-- DEMAND 3: where a preparation has said Found n, first and next give the list
+pub demand-3 : (D : Question) (w : List ℕ) {n m d : ℕ} {a : List ℕ} → Made D w n m (Found d) a → Lists D m a d
+demand-3 D w {n} {m} {d} {a} M = let (p, S) = finished D w M in lists D m a p d S
