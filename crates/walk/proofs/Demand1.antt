@@ -11,15 +11,11 @@ use lib.ListN.{take}
 use Rattle.walk.specs.declared.Status.{Status}
 use Rattle.walk.specs.declared.Status.the-variants.{Found, None, Going}
 use Rattle.walk.specs.Chains.{firstOf, afterOf}
-use Rattle.walk.specs.Refusals.{Question, Row, number, status, listing, start-tests, round-tests, first-tests, next-tests}
+use Rattle.walk.specs.Question.{Question, status, listing}
+use Rattle.walk.specs.Refusals.{Row, number, start-tests, round-tests, first-tests, next-tests}
 use Rattle.walk.specs.Calls.{Answer, refused, gives, Progress, Reply, NoChain, End, Done, judged, prepared, stepped, put, earliest, later, start, round, first, next}
-use Rattle.walk.proofs.Refusals.{NoneGiven, FirstGiven, first-or-none, judged-none, judged-first}
-
--- the call's answer d is a refusal exactly when a row of its list l is given, the first such, with its number and place; and then the buffer is
--- as it was lent
-pub record Refuses {A : Type 0} (l : List Row) (buffer : List ℕ) (d : Done A) : Type 0 where
-  pub exactly : (n p : ℕ) → (d .answer ≡ refused n p) ↔ ((x : Row) × FirstGiven l x × (number (x .name) ≡ n) × (x .place ≡ p))
-  pub stays : (n p : ℕ) → d .answer ≡ refused n p → d .left ≡ buffer
+use Rattle.walk.specs.Demands.{NoneGiven, FirstGiven, Refuses, Demand1}
+use Rattle.walk.proofs.Refusals.{first-or-none, judged-none, judged-first}
 
 module _ {A : Type 0} (l : List Row) (w : List ℕ) (d : Done A) (found : (a : A) × (d .answer ≡ gives a)) where
   -- the work gives something, so what is refused was refused by a row
@@ -63,11 +59,11 @@ module _ (D : Question) (r : ℕ) (w c : List ℕ) where
   later-gives None = (_, refl)
   later-gives Going = (_, refl)
 
-  pub demand-1 : Refuses (start-tests D w) w (start D w) × Refuses (round-tests D r w) w (round D r w) × Refuses (first-tests D r w c) c (first D r w c) × Refuses (next-tests D r w c) c (next D r w c)
+  pub demand-1 : Demand1 D r w c
   unfolding start round first next prepared
-  demand-1 = (
-    judge (start-tests D w) w (prepared D 0 w) (_, refl),
-    judge (round-tests D r w) w _ (stepped-gives (status D r)),
-    judge (first-tests D r w c) c _ (earliest-gives (status D r)),
-    judge (next-tests D r w c) c _ (later-gives (status D r)),
-  )
+  demand-1 = record {
+    of-start = judge (start-tests D w) w (prepared D 0 w) (_, refl);
+    of-round = judge (round-tests D r w) w _ (stepped-gives (status D r));
+    of-first = judge (first-tests D r w c) c _ (earliest-gives (status D r));
+    of-next = judge (next-tests D r w c) c _ (later-gives (status D r));
+  }

@@ -19,38 +19,22 @@ use Rattle.walk.specs.Network.{Network, usable}
 use Rattle.walk.specs.Condition.{Condition}
 use Rattle.walk.specs.Walk.{Joins, Matches, Shortest, Listed}
 use Rattle.walk.specs.Chains.{before, member, firstOf, afterOf}
-use Rattle.walk.specs.Refusals.{Question, Row, pairs, right, status, listing, unfinished, shortChain, notListed, lengthOf, isGoing, isNone, start-tests, round-tests, first-tests, next-tests}
+use Rattle.walk.specs.Question.{Question, pairs, right, status, listing}
+use Rattle.walk.specs.Refusals.{Row, unfinished, shortChain, notListed, lengthOf, isGoing, isNone, start-tests, round-tests, first-tests, next-tests}
 use Rattle.walk.specs.Calls.{Reply, Chain, NoChain, End, Done, leave, judged, put, earliest, later, first, next}
-use Rattle.walk.proofs.Order.{Sorted, member-law, stands-once, after-split}
+use Rattle.walk.specs.Demands.{NoneGiven, Made, Rises, Yields, ends, more, Lists, Demand3}
+use Rattle.walk.proofs.Order.{member-law, stands-once, after-split}
 use Rattle.walk.proofs.Listings.{list-law, listed-law, list-rises}
-use Rattle.walk.proofs.Refusals.{NoneGiven, none-append, none-one, judged-none, Ready, ready, start-passes, round-passes}
-use Rattle.walk.proofs.Demand2.{Made, found-short, finished}
+use Rattle.walk.proofs.Refusals.{none-append, none-one, judged-none, Ready, ready, start-passes, round-passes}
+use Rattle.walk.proofs.Preparations.{finished}
+use Rattle.walk.proofs.Demand2.{found-short}
 
 module _ (D : Question) (r : ℕ) (a : List ℕ) where
-  -- next, handed the chain c in front of x and then each chain that it puts there, gives the chains l and then End; x stays
-  pub data Yields (x : List ℕ) : List ℕ → List (List ℕ) → Type 0 where
-    ends : {c : List ℕ} → next D r a (c ++ x) ≡ leave End (c ++ x) → Yields x c []
-    more : {c y : List ℕ} {l : List (List ℕ)} → next D r a (c ++ x) ≡ leave Chain (y ++ x) → Yields x y l → Yields x c (y ∷ l)
-
   abbrev N : Network
   N = usable (D .network)
 
   abbrev C : Condition
   C = D .condition
-
-  -- the list that first and next give, where n is the least length
-  pub record Lists (n : ℕ) : Type 0 where
-    pub chains : List (List ℕ)
-    -- every matching chain of least length, and nothing else
-    pub all : (c : List ℕ) → List·Memᴰ c chains ↔ Listed N C (D .from) (D .to) c
-    -- in the order, each exactly once
-    pub rises : Sorted chains
-    pub once : (xs : List (List ℕ)) (c : List ℕ) (ys : List (List ℕ)) → chains ≡ xs ++ (c ∷ ys) → (List·Memᴰ c xs → ⊥) × (List·Memᴰ c ys → ⊥)
-    -- asking for the first and handing each one back yields them all and then End
-    pub session : (b : List ℕ) → n ≤ length b → (c : List ℕ) × (l : List (List ℕ)) × (chains ≡ c ∷ l) × (first D r a b ≡ leave Chain (c ++ drop n b)) × Yields (drop n b) c l
-    -- any of them handed back gets the one after it, and the last gets End
-    pub after : (xs : List (List ℕ)) (c y : List ℕ) (ys : List (List ℕ)) (x : List ℕ) → chains ≡ xs ++ (c ∷ (y ∷ ys)) → next D r a (c ++ x) ≡ leave Chain (y ++ x)
-    pub last : (xs : List (List ℕ)) (c x : List ℕ) → chains ≡ xs ++ (c ∷ []) → next D r a (c ++ x) ≡ leave End (c ++ x)
 
   module _ (passes : NoneGiven (round-tests D r a)) (n : ℕ) (S : status D r ≡ Found n) where
     R : Ready D
@@ -82,7 +66,7 @@ module _ (D : Question) (r : ℕ) (a : List ℕ) where
     unfolding listing
     long c m = list-law N C (D .from) (D .to) n (R .sound) c .0 m .0
 
-    rising : Sorted (listing D n)
+    rising : Rises (listing D n)
     unfolding listing
     rising = list-rises N C (D .from) (D .to) n
 
@@ -106,7 +90,7 @@ module _ (D : Question) (r : ℕ) (a : List ℕ) where
         ∙ ap (λ (T : Status). later D (c ++ x) T) S
         ∙ ap (λ (d : List ℕ). put End (c ++ x) (afterOf d (listing D n))) front
         ∙ ap (λ (l : List (List ℕ)). put End (c ++ x) (afterOf c l)) e
-        ∙ ap (λ (o : Option (List ℕ)). put End (c ++ x) o) (after-split xs c k (subst (λ (l : List (List ℕ)). Sorted l) e rising))
+        ∙ ap (λ (o : Option (List ℕ)). put End (c ++ x) o) (after-split xs c k (subst (λ (l : List (List ℕ)). Rises l) e rising))
       where
         m : List·Memᴰ c (listing D n)
         m = subst (λ (l : List (List ℕ)). List·Memᴰ c l) (sym e) (Memᴰ·append-right xs (List·Memᴰ·head refl))
@@ -130,21 +114,20 @@ module _ (D : Question) (r : ℕ) (a : List ℕ) where
     unfolding firstOf
     last-gives xs c x e = next-gives xs c [] x e
 
-    yields : (k xs : List (List ℕ)) (c x : List ℕ) → listing D n ≡ xs ++ (c ∷ k) → Yields x c k
+    yields : (k xs : List (List ℕ)) (c x : List ℕ) → listing D n ≡ xs ++ (c ∷ k) → Yields D r a x c k
     yields [] xs c x e = ends (last-gives xs c x e)
     yields (y ∷ k) xs c x e = more (after-gives xs c y k x e) (yields k (xs ++ (c ∷ [])) y x (e ∙ sym (append-assoc xs (c ∷ []) (y ∷ k))))
 
-    pub lists : Lists n
+    pub lists : Lists D r a n
     lists = record {
       chains = listing D n;
       all = listed;
       rises = rising;
-      once = λ xs c ys e. stands-once xs c ys (subst (λ (l : List (List ℕ)). Sorted l) e rising);
+      once = λ xs c ys e. stands-once xs c ys (subst (λ (l : List (List ℕ)). Rises l) e rising);
       session = λ b l. (let (c, k, e) = some-chain (listing D n) refl in (c, k, e, first-gives b c k l e, yields k [] c (drop n b) e));
       after = after-gives;
       last = last-gives;
     }
 
--- DEMAND 3: where a preparation has said Found n, first and next give the list
-pub demand-3 : (D : Question) (w : List ℕ) {n m d : ℕ} {a : List ℕ} → Made D w n m (Found d) a → Lists D m a d
-demand-3 D w {n} {m} {d} {a} M = let (p, S) = finished D w M in lists D m a p d S
+pub demand-3 : (D : Question) (w : List ℕ) → Demand3 D w
+demand-3 D w n m d a M = let (p, S) = finished D w M in lists D m a p d S

@@ -11,5 +11,9 @@ pub mod Listings
 pub mod Back
 pub mod Refusals
 pub mod Demand1
+pub mod Preparations
 pub mod Demand2
+pub mod CountRule
 pub mod Demand3
+pub mod Unique
+pub mod NetworkN

@@ -10,13 +10,14 @@ use Rattle.walk.specs.Network.{Network, ties, toOf}
 use Rattle.walk.specs.Condition.{Condition}
 use Rattle.walk.specs.Walk.{Joins, Matches, Shortest, Listed}
 use Rattle.walk.specs.Chains.{rows, sieve, matches, list}
+use Rattle.walk.specs.Demands.{Rises}
 use Rattle.walk.proofs.Executable.{Sound, matches-law}
-use Rattle.walk.proofs.Order.{Sorted, Below, mem-rows, rows-mem, sorted-rows, sieve-mem, mem-sieve, sorted-sieve}
+use Rattle.walk.proofs.Order.{Below, mem-rows, rows-mem, rises-rows, sieve-mem, mem-sieve, rises-sieve}
 
 module _ (N : Network) (C : Condition) (s t n : ℕ) where
-  pub list-rises : Sorted (list N C s t n)
+  pub list-rises : Rises (list N C s t n)
   unfolding list
-  list-rises = sorted-sieve (matches N C s t) _ (sorted-rows (ties N) n)
+  list-rises = rises-sieve (matches N C s t) _ (rises-rows (ties N) n)
 
   joins-below : (u : ℕ) (c : List ℕ) → Joins N u c t → Below (ties N) c
   joins-below u [] h = tt

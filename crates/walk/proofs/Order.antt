@@ -13,6 +13,7 @@ use lib.ListN.{length}
 use borrow.Author.Tests.{ltb-true, lt-ltb}
 use Rattle.walk.specs.Numbers.{_and_, pick, table, same}
 use Rattle.walk.specs.Chains.{before, joined, rows, sieve, member, firstOf, afterOf}
+use Rattle.walk.specs.Demands.{Rises}
 use Rattle.walk.proofs.Tests.{Yes, and-in, and-of, or-in, or-left, or-right, same-refl, same-eq, same-of}
 
 -- ---- the order
@@ -35,15 +36,11 @@ before-asym (x ∷ xs) (y ∷ ys) t u =
     (or-in (before ys xs) _ u))
     (or-in (before xs ys) _ t)
 
--- ---- sorted lists of rows
-abbrev pub Sorted : List (List ℕ) → Type 0
-Sorted [] = Unit {0}
-Sorted (x ∷ xs) = ((y : List ℕ) → List·Memᴰ y xs → Yes (before x y)) × Sorted xs
-
-sorted-append : (xs ys : List (List ℕ)) → Sorted xs → Sorted ys → ((x y : List ℕ) → List·Memᴰ x xs → List·Memᴰ y ys → Yes (before x y)) → Sorted (xs ++ ys)
-sorted-append [] ys a b h = b
-sorted-append (x ∷ xs) ys a b h =
-    (λ y m. ⊎-elim (λ k. a .0 y k) (λ k. h x y (List·Memᴰ·head refl) k) (List·Memᴰ·append-cases xs m), sorted-append xs ys (a .1) b (λ c d k l. h c d (List·Memᴰ·tail k) l))
+-- ---- lists that rise
+rises-append : (xs ys : List (List ℕ)) → Rises xs → Rises ys → ((x y : List ℕ) → List·Memᴰ x xs → List·Memᴰ y ys → Yes (before x y)) → Rises (xs ++ ys)
+rises-append [] ys a b h = b
+rises-append (x ∷ xs) ys a b h =
+    (λ y m. ⊎-elim (λ k. a .0 y k) (λ k. h x y (List·Memᴰ·head refl) k) (List·Memᴰ·append-cases xs m), rises-append xs ys (a .1) b (λ c d k l. h c d (List·Memᴰ·tail k) l))
 
 table-mem : (n : ℕ) (f : ℕ → List ℕ) (y : List ℕ) → List·Memᴰ y (table n f) → (i : ℕ) × (i < n) × (y ≡ f i)
 unfolding table
@@ -57,11 +54,11 @@ mem-table zero f i h = absurd (not-suc-le-zero h)
 mem-table (suc n) f zero h = List·Memᴰ·head refl
 mem-table (suc n) f (suc i) h = List·Memᴰ·tail (mem-table n (λ j. f (suc j)) i (le-of-suc-le-suc h))
 
-sorted-table : (n : ℕ) (f : ℕ → List ℕ) → ((i j : ℕ) → i < j → Yes (before (f i) (f j))) → Sorted (table n f)
+rises-table : (n : ℕ) (f : ℕ → List ℕ) → ((i j : ℕ) → i < j → Yes (before (f i) (f j))) → Rises (table n f)
 unfolding table
-sorted-table zero f h = tt
-sorted-table (suc n) f h =
-    (λ y m. let (i, _, e) = table-mem n (λ j. f (suc j)) y m in rw e (h 0 (suc i) (omega arith)), sorted-table n (λ j. f (suc j)) (λ i j l. h (suc i) (suc j) (omega arith)))
+rises-table zero f h = tt
+rises-table (suc n) f h =
+    (λ y m. let (i, _, e) = table-mem n (λ j. f (suc j)) y m in rw e (h 0 (suc i) (omega arith)), rises-table n (λ j. f (suc j)) (λ i j l. h (suc i) (suc j) (omega arith)))
 
 -- ---- all rows
 module _ (b : ℕ) where
@@ -72,9 +69,9 @@ module _ (b : ℕ) where
   heads-mem : (c y : List ℕ) → List·Memᴰ y (heads c) → (e : ℕ) × (e < b) × (y ≡ e ∷ c)
   heads-mem c y m = table-mem b _ y m
 
-  sorted-heads : (c : List ℕ) → Sorted (heads c)
+  rises-heads : (c : List ℕ) → Rises (heads c)
   unfolding before
-  sorted-heads c = sorted-table b _ (λ i j l. or-right (before c c) _ (and-of (same-refl c) (lt-ltb i j l)))
+  rises-heads c = rises-table b _ (λ i j l. or-right (before c c) _ (and-of (same-refl c) (lt-ltb i j l)))
 
   all-mem : (l : List (List ℕ)) (y : List ℕ) → List·Memᴰ y (joined (map heads l)) → (c : List ℕ) × List·Memᴰ c l × List·Memᴰ y (heads c)
   unfolding joined
@@ -88,10 +85,10 @@ module _ (b : ℕ) where
   mem-all (x ∷ xs) c y m k =
       ⊎-elim (λ e. Memᴰ·append-left _ (rw e at k)) (λ h. Memᴰ·append-right (heads x) (mem-all xs c y h k)) (List·Memᴰ·cases-cons m)
 
-  sorted-all : (l : List (List ℕ)) → Sorted l → Sorted (joined (map heads l))
+  rises-all : (l : List (List ℕ)) → Rises l → Rises (joined (map heads l))
   unfolding joined before
-  sorted-all [] h = tt
-  sorted-all (x ∷ xs) h = sorted-append (heads x) _ (sorted-heads x) (sorted-all xs (h .1)) cross
+  rises-all [] h = tt
+  rises-all (x ∷ xs) h = rises-append (heads x) _ (rises-heads x) (rises-all xs (h .1)) cross
     where
       cross : (c d : List ℕ) → List·Memᴰ c (heads x) → List·Memᴰ d (joined (map heads xs)) → Yes (before c d)
       cross c d m k =
@@ -100,10 +97,10 @@ module _ (b : ℕ) where
           let (f, _, de) = heads-mem y d yk in
           rw (ce, de) (or-left (before x y) _ (h .0 y ym))
 
-  pub sorted-rows : (n : ℕ) → Sorted (rows b n)
+  pub rises-rows : (n : ℕ) → Rises (rows b n)
   unfolding rows
-  sorted-rows zero = (λ y m. absurd (List·Memᴰ·not-nil m), tt)
-  sorted-rows (suc n) = sorted-all (rows b n) (sorted-rows n)
+  rises-rows zero = (λ y m. absurd (List·Memᴰ·not-nil m), tt)
+  rises-rows (suc n) = rises-all (rows b n) (rises-rows n)
 
   -- each number of the row is below b
   abbrev pub Below : List ℕ → Type 0
@@ -145,17 +142,17 @@ module _ (p : List ℕ → Bool) where
       go false e (inl k) ih = absurd (false≢true (sym e ∙ ap p (sym k) ∙ t))
       go false e (inr k) ih = ih k
 
-  pub sorted-sieve : (l : List (List ℕ)) → Sorted l → Sorted (sieve p l)
+  pub rises-sieve : (l : List (List ℕ)) → Rises l → Rises (sieve p l)
   unfolding sieve
-  sorted-sieve [] h = tt
-  sorted-sieve (x ∷ xs) h = go (p x) (sorted-sieve xs (h .1))
+  rises-sieve [] h = tt
+  rises-sieve (x ∷ xs) h = go (p x) (rises-sieve xs (h .1))
     where
-      go : (t : Bool) → Sorted (sieve p xs) → Sorted (pick t (x ∷ sieve p xs) (sieve p xs))
+      go : (t : Bool) → Rises (sieve p xs) → Rises (pick t (x ∷ sieve p xs) (sieve p xs))
       go true s = (λ y m. h .0 y (sieve-mem xs y m .0), s)
       go false s = s
 
 -- ---- the first and the next of a sorted list
-pub first-is : (l : List (List ℕ)) (c : List ℕ) → Sorted l → List·Memᴰ c l → ((d : List ℕ) → List·Memᴰ d l → Yes (before d c) → ⊥) → firstOf l ≡ some c
+pub first-is : (l : List (List ℕ)) (c : List ℕ) → Rises l → List·Memᴰ c l → ((d : List ℕ) → List·Memᴰ d l → Yes (before d c) → ⊥) → firstOf l ≡ some c
 unfolding firstOf
 first-is [] c h m n = absurd (List·Memᴰ·not-nil m)
 first-is (x ∷ xs) c h m n = ⊎-elim (λ e. ap some (sym e)) (λ k. absurd (n x (List·Memᴰ·head refl) (h .0 c k))) (List·Memᴰ·cases-cons m)
@@ -173,17 +170,17 @@ unfolding afterOf
 after-here c xs = rw (same-refl c)
 
 -- in a list that rises, each row stands once, and the row after c is the first of what stands behind it
-pub stands-once : (xs : List (List ℕ)) (c : List ℕ) (ys : List (List ℕ)) → Sorted (xs ++ (c ∷ ys)) → (List·Memᴰ c xs → ⊥) × (List·Memᴰ c ys → ⊥)
+pub stands-once : (xs : List (List ℕ)) (c : List ℕ) (ys : List (List ℕ)) → Rises (xs ++ (c ∷ ys)) → (List·Memᴰ c xs → ⊥) × (List·Memᴰ c ys → ⊥)
 stands-once [] c ys h = (λ m. List·Memᴰ·not-nil m, λ m. before-irrefl c (h .0 c m))
 stands-once (x ∷ xs) c ys h =
     let (f, g) = stands-once xs c ys (h .1) in
     (λ m. ⊎-elim (λ e. before-irrefl x (rw e at (h .0 c (Memᴰ·append-right xs (List·Memᴰ·head refl))))) f (List·Memᴰ·cases-cons m), g)
 
-pub after-split : (xs : List (List ℕ)) (c : List ℕ) (ys : List (List ℕ)) → Sorted (xs ++ (c ∷ ys)) → afterOf c (xs ++ (c ∷ ys)) ≡ firstOf ys
+pub after-split : (xs : List (List ℕ)) (c : List ℕ) (ys : List (List ℕ)) → Rises (xs ++ (c ∷ ys)) → afterOf c (xs ++ (c ∷ ys)) ≡ firstOf ys
 after-split [] c ys h = after-here c ys
 after-split (x ∷ xs) c ys h = after-step c x (xs ++ (c ∷ ys)) (λ e. stands-once (x ∷ xs) c ys h .0 (List·Memᴰ·head (sym e))) ∙ after-split xs c ys (h .1)
 
-pub next-is : (l : List (List ℕ)) (c d : List ℕ) → Sorted l → List·Memᴰ c l → List·Memᴰ d l → Yes (before c d) → ((x : List ℕ) → List·Memᴰ x l → Yes (before c x) → Yes (before x d) → ⊥) → afterOf c l ≡ some d
+pub next-is : (l : List (List ℕ)) (c d : List ℕ) → Rises l → List·Memᴰ c l → List·Memᴰ d l → Yes (before c d) → ((x : List ℕ) → List·Memᴰ x l → Yes (before c x) → Yes (before x d) → ⊥) → afterOf c l ≡ some d
 next-is [] c d h m k b n = absurd (List·Memᴰ·not-nil m)
 next-is (x ∷ xs) c d h m k b n = go (List·Memᴰ·cases-cons m) (List·Memᴰ·cases-cons k) (λ i j. next-is xs c d (h .1) i j b (λ y ym. n y (List·Memᴰ·tail ym)))
   where
@@ -193,7 +190,7 @@ next-is (x ∷ xs) c d h m k b n = go (List·Memᴰ·cases-cons m) (List·Memᴰ
     go (inr e) (inl f) ih = absurd (before-asym x c (h .0 c e) (rw f at b))
     go (inr e) (inr f) ih = after-step c x xs (λ g. before-irrefl c (rw g at (h .0 c e))) ∙ ih e f
 
-pub next-none : (l : List (List ℕ)) (c : List ℕ) → Sorted l → List·Memᴰ c l → ((x : List ℕ) → List·Memᴰ x l → Yes (before c x) → ⊥) → afterOf c l ≡ none
+pub next-none : (l : List (List ℕ)) (c : List ℕ) → Rises l → List·Memᴰ c l → ((x : List ℕ) → List·Memᴰ x l → Yes (before c x) → ⊥) → afterOf c l ≡ none
 unfolding firstOf
 next-none [] c h m n = absurd (List·Memᴰ·not-nil m)
 next-none (x ∷ xs) c h m n = go (List·Memᴰ·cases-cons m) (λ i. next-none xs c (h .1) i (λ y ym. n y (List·Memᴰ·tail ym)))

@@ -13,11 +13,13 @@ use borrow.Author.Tests.{eqb-true, ltb-true, ltb-false, le-ltb, leb-true, le-leb
 use Rattle.walk.specs.declared.Refusal.{Refusal}
 use Rattle.walk.specs.declared.Refusal.the-variants.{BadTie, BadMove}
 use Rattle.walk.specs.Ceilings.{ceilings}
-use Rattle.walk.specs.Numbers.{has, _and_, anyBelow, least, same}
+use Rattle.walk.specs.Numbers.{has, _and_, anyBelow, least, onlyBelow, same}
 use Rattle.walk.specs.Network.{Network, ties, fromOf, toOf, kindsOf, usable}
 use Rattle.walk.specs.Condition.{Condition, moveAt, starts, accepts, follows}
-use Rattle.walk.specs.Refusals.{Question, Row, atFirst, number, pairs, right, sizes, badTie, badCondition, badMove, badEnds, shortArea, wrongArea, lent-tests, start-tests, round-tests}
+use Rattle.walk.specs.Question.{Question, pairs, right}
+use Rattle.walk.specs.Refusals.{Row, atFirst, number, sizes, badTie, badCondition, badMove, badEnds, shortArea, wrongArea, lent-tests, start-tests, round-tests}
 use Rattle.walk.specs.Calls.{Answer, refused, Done, judged}
+use Rattle.walk.specs.Demands.{NoneGiven, FirstGiven}
 use Rattle.walk.proofs.Tests.{Yes, and-in, and-of, anyBelow-in, least-is, same-eq, same-of}
 use Rattle.walk.proofs.Sets.{zero-has, has-below}
 use Rattle.walk.proofs.Executable.{Sound}
@@ -25,17 +27,6 @@ use Rattle.walk.proofs.Words.{unreached, Local, local-law}
 use Rattle.walk.proofs.Areas.{at, area-right}
 
 -- ---- which row answers
-abbrev pub NoneGiven : List Row → Type 0
-NoneGiven l = (x : Row) → List·Memᴰ x l → x .given ≡ false
-
--- x is the first row of the list that is given
-pub record FirstGiven (l : List Row) (x : Row) : Type 0 where
-  pub earlier : List Row
-  pub later : List Row
-  pub stands : l ≡ earlier ++ (x ∷ later)
-  pub passed : NoneGiven earlier
-  pub given : x .given ≡ true
-
 none-cons : (x : Row) (l : List Row) → x .given ≡ false → NoneGiven l → NoneGiven (x ∷ l)
 none-cons x l e h y m = ⊎-elim (λ f. ap (λ (z : Row). z .given) f ∙ e) (λ k. h y k) (List·Memᴰ·cases-cons m)
 
@@ -80,10 +71,10 @@ at-first x n bad e i h = go (bad i) refl
     go true b = absurd (least-is bad n .none-before i (let l = ltb-false (least bad n) n e in omega arith) b)
     go false b = b
 
--- what refusals 1 to 6 leave: the network and condition are sound, V×Q is below 65,535, and both marks are there
+-- what refusals 1 to 6 leave: the network and condition are sound, V×Q is at most its ceiling, and both marks are there
 pub record Ready (D : Question) : Type 0 where
   pub sound : Sound (usable (D .network)) (D .condition)
-  pub few : pairs D < unreached
+  pub few : pairs D ≤ ceilings .words
   pub from-in : D .from < usable (D .network) .marks
   pub to-in : D .to < usable (D .network) .marks
 
@@ -119,7 +110,7 @@ module _ (D : Question) where
       kinds : kindsOf N e < 2 ^ N .kinds
 
     tied : (e : ℕ) → e < ties N → Tied e
-    unfolding lent-tests badTie
+    unfolding lent-tests badTie onlyBelow
     tied e l =
         let (a, x) = and-in _ _ (not-false _ (at-first BadTie (ties N) _ (h (badTie D) (search rows depth 16)) e l)) in
         let (b, y) = and-in _ _ x in
@@ -132,7 +123,7 @@ module _ (D : Question) where
       accept : C .accept < 2 ^ C .states
 
     stated : Stated
-    unfolding lent-tests badCondition
+    unfolding lent-tests badCondition onlyBelow
     stated =
         let (a, x) = and-in _ _ (not-false _ (h (badCondition D) (search rows depth 16))) in
         let (_, y) = and-in _ _ x in

@@ -13,7 +13,8 @@ use Rattle.walk.specs.declared.First.{First}
 use Rattle.walk.specs.declared.First.the-variants as first
 use Rattle.walk.specs.declared.Next.{Next}
 use Rattle.walk.specs.declared.Next.the-variants as next
-use Rattle.walk.specs.Refusals.{Question, number}
+use Rattle.walk.specs.Question.{Question}
+use Rattle.walk.specs.Refusals.{number}
 use Rattle.walk.specs.Calls.{Answer, refused, gives, Progress, Reply, Chain, NoChain, End, Done}
 
 -- what is lent, as the definitions speak of it

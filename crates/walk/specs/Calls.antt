@@ -8,7 +8,8 @@ use lib.ListN.{length, take, drop}
 use Rattle.walk.specs.declared.Status.{Status}
 use Rattle.walk.specs.declared.Status.the-variants.{Found, None, Going}
 use Rattle.walk.specs.Chains.{firstOf, afterOf}
-use Rattle.walk.specs.Refusals.{Question, Row, number, pairs, right, status, listing, start-tests, round-tests, first-tests, next-tests}
+use Rattle.walk.specs.Question.{Question, pairs, right, status, listing}
+use Rattle.walk.specs.Refusals.{Row, number, start-tests, round-tests, first-tests, next-tests}
 
 -- 01: "Each refusal hands back its number and place only"; any other answer gives what the call found
 pub data Answer (A : Type 0) : Type 0 where

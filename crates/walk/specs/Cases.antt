@@ -7,7 +7,7 @@ use Rattle.walk.specs.declared.Status.{Status}
 use Rattle.walk.specs.declared.Status.the-variants.{Found, None, Going}
 use Rattle.walk.specs.Network.{Network}
 use Rattle.walk.specs.Condition.{Condition}
-use Rattle.walk.specs.Refusals.{Question}
+use Rattle.walk.specs.Question.{Question}
 use Rattle.walk.specs.Sessions.{Call, start, round, first, next, Heard, refused, after, chain, none, end, Step, Session}
 
 abbrev pub step : Call → Heard → List ℕ → List ℕ → Step

@@ -5,9 +5,11 @@ pub mod Condition
 pub mod Walk
 pub mod Area
 pub mod Chains
+pub mod Question
 pub mod Refusals
 pub mod Calls
 pub mod Answers
+pub mod Demands
 pub mod Sessions
 pub mod Cases
 pub mod OwnCases

@@ -3,7 +3,7 @@ use Prim.Native.Nat.{ℕ, zero, suc, _+_, _/_, _%_, _^_}
 use mathlib.Core.Bool.{Bool, true, false, _||_, not}
 use mathlib.Core.List.{List, [], _∷_, _++_}
 use lib.Bits.{bitOr}
-use lib.Dec.{eqb}
+use lib.Dec.{ltb, eqb}
 
 -- both tests pass
 infixr 35 _and_
@@ -34,6 +34,10 @@ table (suc n) f = f zero ∷ table n (λ i. f (suc i))
 -- 01: "as a 32-bit set, bit k for kind k": k is in the set s
 unfoldable pub has : ℕ → ℕ → Bool
 has s k = eqb (s / 2 ^ k % 2) 1
+
+-- no number from n on is in the set s
+unfoldable pub onlyBelow : ℕ → ℕ → Bool
+onlyBelow n s = ltb s (2 ^ n)
 
 -- the set of the numbers below n that pass
 unfoldable pub setBelow : ℕ → (ℕ → Bool) → ℕ

@@ -1,5 +1,5 @@
 -- The table of refusals: each row with its name, when it is given, and its place; and the rows that each call tests, in order.
-use Prim.Native.Nat.{ℕ, suc, _-_, _*_, _^_}
+use Prim.Native.Nat.{ℕ, _-_}
 use mathlib.Core.Bool.{Bool, true, false, not, _||_}
 use mathlib.Core.List.{List, [], _∷_, _++_}
 use lib.Dec.{leb, ltb, eqb}
@@ -9,38 +9,11 @@ use Rattle.walk.specs.declared.Status.the-variants.{Found, None, Going}
 use Rattle.walk.specs.declared.Refusal.{Refusal}
 use Rattle.walk.specs.declared.Refusal.the-variants.{Sizes, BadTie, TieOrder, BadCondition, BadMove, BadEnds, ShortArea, WrongArea, Unfinished, ShortChain, NotListed}
 use Rattle.walk.specs.Ceilings.{ceilings}
-use Rattle.walk.specs.Numbers.{_and_, least, same}
-use Rattle.walk.specs.Network.{Network, ties, fromOf, toOf, kindsOf, usable}
+use Rattle.walk.specs.Numbers.{_and_, least, onlyBelow, same}
+use Rattle.walk.specs.Network.{Network, ties, fromOf, toOf, kindsOf}
 use Rattle.walk.specs.Condition.{Condition, moveAt}
-use Rattle.walk.specs.Area as Area
-use Rattle.walk.specs.Chains as Chains
-
--- what every call is asked about: a network, a condition, and the marks s and t
-pub record Question : Type 0 where
-  pub network : Network
-  pub condition : Condition
-  pub from : ℕ
-  pub to : ℕ
-
-module _ (D : Question) where
-  abbrev N : Network
-  N = D .network
-
-  abbrev C : Condition
-  C = D .condition
-
-  abbrev pub pairs : ℕ
-  pairs = Area.pairs N C
-
-  -- the right area for r rounds, its status, and the list of chains of length n, over the network as a chain may use it
-  unfoldable pub right : ℕ → List ℕ
-  right r = Area.area (usable N) C (D .from) r
-
-  unfoldable pub status : ℕ → Status
-  status r = Area.status (usable N) C (D .from) (D .to) r
-
-  unfoldable pub listing : ℕ → List (List ℕ)
-  listing n = Chains.list (usable N) C (D .from) (D .to) n
+use Rattle.walk.specs.Chains.{member}
+use Rattle.walk.specs.Question.{Question, pairs, right, status, listing}
 
 -- 01, the column "No."
 abbrev pub number : Refusal → ℕ
@@ -82,45 +55,52 @@ isNone (Found n) = false
 isNone None = true
 isNone Going = false
 
+-- the least length; with none found 0, which no buffer is shorter than
 abbrev pub lengthOf : Status → ℕ
 lengthOf (Found n) = n
 lengthOf None = 0
 lengthOf Going = 0
 
 module _ (D : Question) where
+  abbrev N : Network
+  N = D .network
+
+  abbrev C : Condition
+  C = D .condition
+
   -- "V, K or E past its ceiling or V, K zero, or columns of unequal length"
   unfoldable pub sizes : Row
   sizes =
       row Sizes (not (
-      within 1 (N D .marks) (ceilings .marks) and within 1 (N D .kinds) (ceilings .kinds) and leb (ties (N D)) (ceilings .ties)
-      and eqb (length (N D .tos)) (ties (N D)) and eqb (length (N D .sets)) (ties (N D)))) 0
+      within 1 (N .marks) (ceilings .marks) and within 1 (N .kinds) (ceilings .kinds) and leb (ties N) (ceilings .ties)
+      and eqb (length (N .tos)) (ties N) and eqb (length (N .sets)) (ties N))) 0
 
   -- "a tie names a mark not below V or a kind not below K", at the "first such tie"
   unfoldable pub badTie : Row
   badTie =
-      atFirst BadTie (ties (N D))
-      (λ e. not (ltb (fromOf (N D) e) (N D .marks) and ltb (toOf (N D) e) (N D .marks) and ltb (kindsOf (N D) e) (2 ^ N D .kinds)))
+      atFirst BadTie (ties N)
+      (λ e. not (ltb (fromOf N e) (N .marks) and ltb (toOf N e) (N .marks) and onlyBelow (N .kinds) (kindsOf N e)))
 
   -- "a tie's to mark is below that of the tie before", at the "first such tie"
   unfoldable pub tieOrder : Row
-  tieOrder = atFirst TieOrder (ties (N D)) (λ e. ltb 0 e and ltb (toOf (N D) e) (toOf (N D) (e - 1)))
+  tieOrder = atFirst TieOrder (ties N) (λ e. ltb 0 e and ltb (toOf N e) (toOf N (e - 1)))
 
   -- "Q or the move count outside its ceiling, or a start or accepting state not below Q"
   unfoldable pub badCondition : Row
   badCondition =
       row BadCondition (not (
-      within 1 (C D .states) (ceilings .states) and leb (length (C D .moves)) (ceilings .moves)
-      and ltb (C D .start) (2 ^ C D .states) and ltb (C D .accept) (2 ^ C D .states))) 0
+      within 1 (C .states) (ceilings .states) and leb (length (C .moves)) (ceilings .moves)
+      and onlyBelow (C .states) (C .start) and onlyBelow (C .states) (C .accept))) 0
 
   -- "a move names a state not below Q or a kind not below K", at the "first such move"
   unfoldable pub badMove : Row
   badMove =
-      atFirst BadMove (length (C D .moves))
-      (λ j. let m = moveAt (C D) j in not (ltb (m .from) (C D .states) and ltb (m .kind) (N D .kinds) and ltb (m .to) (C D .states)))
+      atFirst BadMove (length (C .moves))
+      (λ j. let m = moveAt C j in not (ltb (m .from) (C .states) and ltb (m .kind) (N .kinds) and ltb (m .to) (C .states)))
 
   -- "s or t not below V"
   unfoldable pub badEnds : Row
-  badEnds = row BadEnds (not (ltb (D .from) (N D .marks) and ltb (D .to) (N D .marks))) 0
+  badEnds = row BadEnds (not (ltb (D .from) (N .marks) and ltb (D .to) (N .marks))) 0
 
   -- "area shorter than V×Q words", place "V×Q"
   unfoldable pub shortArea : List ℕ → Row
@@ -141,7 +121,7 @@ module _ (D : Question) where
   -- "next, when the chain handed in is no listed chain, or status None"
   unfoldable pub notListed : ℕ → List ℕ → Row
   notListed r c =
-      let n = lengthOf (status D r) in row NotListed (isNone (status D r) || not (Chains.member (take n c) (listing D n))) 0
+      let n = lengthOf (status D r) in row NotListed (isNone (status D r) || not (member (take n c) (listing D n))) 0
 
   -- 01: "Start gives 1 to 7, a round 1 to 8, first 1 to 10, next all." The first six look at no buffer.
   unfoldable pub lent-tests : List Row

@@ -7,7 +7,7 @@ use Rattle.walk.specs.Numbers.{has, _and_, pick}
 use Rattle.walk.specs.Network.{Network, kindsOf}
 use Rattle.walk.specs.Condition.{Condition, starts, accepts, follows}
 use Rattle.walk.specs.Chains.{before}
-use Rattle.walk.specs.Refusals.{Question}
+use Rattle.walk.specs.Question.{Question}
 use Rattle.walk.specs.Calls as Calls
 
 pub data Call : Type 0 where

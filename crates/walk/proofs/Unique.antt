@@ -1,0 +1,82 @@
+-- Two results of a call that meet its promise are equal, as the Rattle values that are handed back and as lists of words: each reading of an answer
+-- tells its cases apart, and the number of a refusal tells its name.
+use Prim.Native.Nat.{ℕ}
+use mathlib.Core.Path.{_≡_, refl, sym, _∙_, ap}
+use mathlib.Core.List.{List}
+use lib.Dec.{eqb}
+use Rattle.walk.specs.declared.Refusal.{Refusal}
+use Rattle.walk.specs.declared.Refusal.the-variants.{Sizes, BadTie, TieOrder, BadCondition, BadMove, BadEnds, ShortArea, WrongArea, Unfinished, ShortChain, NotListed}
+use Rattle.walk.specs.declared.Prepared.{Prepared}
+use Rattle.walk.specs.declared.Prepared.the-variants as prepared
+use Rattle.walk.specs.declared.First.{First}
+use Rattle.walk.specs.declared.First.the-variants as first
+use Rattle.walk.specs.declared.Next.{Next}
+use Rattle.walk.specs.declared.Next.the-variants as next
+use Rattle.walk.specs.Numbers.{pick}
+use Rattle.walk.specs.Refusals.{number}
+use Rattle.walk.specs.Calls.{Answer, refused, gives, Progress, Reply, Chain, NoChain, End, Done}
+use Rattle.walk.specs.Answers.{saidPrepared, saidFirst, saidNext, Meets}
+
+-- the name of a number
+named : ℕ → Refusal
+named n =
+    pick (eqb n 1) Sizes (pick (eqb n 2) BadTie (pick (eqb n 3) TieOrder (pick (eqb n 4) BadCondition (pick (eqb n 5) BadMove
+    (pick (eqb n 6) BadEnds (pick (eqb n 7) ShortArea (pick (eqb n 8) WrongArea (pick (eqb n 9) Unfinished (pick (eqb n 10) ShortChain NotListed)))))))))
+
+named-number : (x : Refusal) → named (number x) ≡ x
+unfolding named
+named-number Sizes = refl
+named-number BadTie = refl
+named-number TieOrder = refl
+named-number BadCondition = refl
+named-number BadMove = refl
+named-number BadEnds = refl
+named-number ShortArea = refl
+named-number WrongArea = refl
+named-number Unfinished = refl
+named-number ShortChain = refl
+named-number NotListed = refl
+
+-- ---- each answer can be read back from what it says
+abbrev readPrepared : Answer Progress → Prepared
+readPrepared (refused n p) = prepared.Refused (named n) p
+readPrepared (gives a) = prepared.After (record { done = a .done }) (a .status)
+
+prepared-back : (a : Prepared) → readPrepared (saidPrepared a) ≡ a
+prepared-back (prepared.After r s) = refl
+prepared-back (prepared.Refused n p) = ap (λ (x : Refusal). prepared.Refused x p) (named-number n)
+
+abbrev readFirst : Answer Reply → First
+readFirst (refused n p) = first.Refused (named n) p
+readFirst (gives Chain) = first.Chain
+readFirst (gives NoChain) = first.None
+readFirst (gives End) = first.None
+
+first-back : (a : First) → readFirst (saidFirst a) ≡ a
+first-back first.Chain = refl
+first-back first.None = refl
+first-back (first.Refused n p) = ap (λ (x : Refusal). first.Refused x p) (named-number n)
+
+abbrev readNext : Answer Reply → Next
+readNext (refused n p) = next.Refused (named n) p
+readNext (gives Chain) = next.Chain
+readNext (gives NoChain) = next.End
+readNext (gives End) = next.End
+
+next-back : (a : Next) → readNext (saidNext a) ≡ a
+next-back next.Chain = refl
+next-back next.End = refl
+next-back (next.Refused n p) = ap (λ (x : Refusal). next.Refused x p) (named-number n)
+
+-- ---- so what meets a promise is one
+pub unique : {A B : Type 0} (said : B → Answer A) (read : Answer A → B) → ((a : B) → read (said a) ≡ a) → (d : Done A) (a b : B) (v w : List ℕ) → Meets d (said a) v → Meets d (said b) w → (a ≡ b) × (v ≡ w)
+unique said read back d a b v w m n = (sym (back a) ∙ ap read (m .answers ∙ sym (n .answers)) ∙ back b, m .leaves ∙ sym (n .leaves))
+
+pub unique-prepared : (d : Done Progress) (a b : Prepared) (v w : List ℕ) → Meets d (saidPrepared a) v → Meets d (saidPrepared b) w → (a ≡ b) × (v ≡ w)
+unique-prepared = unique saidPrepared readPrepared prepared-back
+
+pub unique-first : (d : Done Reply) (a b : First) (v w : List ℕ) → Meets d (saidFirst a) v → Meets d (saidFirst b) w → (a ≡ b) × (v ≡ w)
+unique-first = unique saidFirst readFirst first-back
+
+pub unique-next : (d : Done Reply) (a b : Next) (v w : List ℕ) → Meets d (saidNext a) v → Meets d (saidNext b) w → (a ≡ b) × (v ≡ w)
+unique-next = unique saidNext readNext next-back
