@@ -1,32 +1,23 @@
 -- The count rule. The round before the last said Going: no chain of its count or fewer ties matches, and some pair has its count as least length.
 -- So Found first shows at the least length itself, and None at one more than the greatest least length.
-use Prim.Native.Nat.{ℕ, zero, suc, _+_, _*_, _-_, _≤_, _<_}
-use mathlib.Core.Path.{_≡_, refl, sym, _∙_, subst, ap}
-use mathlib.Core.Bool.{Bool, true, false}
-use mathlib.Core.List.{List, [], _∷_, _++_}
-use mathlib.Core.Logic.{_↔_, _⊎_, inl, inr, ⊎-elim}
-use native.Mathlib.Nat.{zero-add}
+use Prim.Native.Nat.{ℕ, zero, suc, _-_, _≤_, _<_}
+use mathlib.Core.Path.{_≡_, refl, sym, _∙_, subst}
+use mathlib.Core.List.{List}
+use mathlib.Core.Logic.{_⊎_, inl, inr}
 use native.Mathlib.Omega.{arith}
-use lib.Dec.{leb}
-use lib.ListN.{length, getD, take, drop, length-append, length-drop, List·getD-append}
-use lib.Seq.{take-at, drop-at, length-front, length-take-le}
-use borrow.Author.Tests.{leb-true, leb-false}
 use Rattle.walk.specs.declared.Status.{Status}
 use Rattle.walk.specs.declared.Status.the-variants.{Found, None, Going}
 use Rattle.walk.specs.Network.{Network, usable}
 use Rattle.walk.specs.Condition.{Condition}
-use Rattle.walk.specs.Walk.{Joins, Matches, LeastLength, Nearest, Shortest}
-use Rattle.walk.specs.Area as Area
-use Rattle.walk.specs.Question.{Question, pairs, right, status}
-use Rattle.walk.specs.Refusals.{Row, number, lent-tests, start-tests, round-tests}
-use Rattle.walk.specs.Calls.{Answer, refused, gives, Progress, Done, leave, judged, prepared, stepped, start, round}
-use Rattle.walk.specs.Demands.{NoneGiven, FirstGiven, Made, begun, again, Finished, RightWord, NoMatch, Prepared, Demand2, NoPair, Greatest, Counted, CountRule}
+use Rattle.walk.specs.Walk.{Nearest}
+use Rattle.walk.specs.Question.{Question, status}
+use Rattle.walk.specs.Demands.{Made, NoPair, Greatest, Counted, CountRule}
 use Rattle.walk.proofs.Executable.{Sound}
-use Rattle.walk.proofs.Words.{unreached, word-is}
-use Rattle.walk.proofs.Areas.{length-area, area-at, place-in, front-law}
-use Rattle.walk.proofs.Lengths.{Dist, dist-law, dist-bound, word-dist, dist-word, level}
-use Rattle.walk.proofs.Statuses.{Best, best-law, best-of, match-reach, found-is, going-is, none-is, found-when, descend}
-use Rattle.walk.proofs.Refusals.{first-or-none, judged-none, judged-first, Ready, ready, start-passes, round-passes}
+use Rattle.walk.proofs.Words.{unreached}
+use Rattle.walk.proofs.Areas.{front-law}
+use Rattle.walk.proofs.Lengths.{Dist, dist-law, word-dist, dist-word, level}
+use Rattle.walk.proofs.Statuses.{best-law, going-is, none-is}
+use Rattle.walk.proofs.Refusals.{Ready, ready}
 use Rattle.walk.proofs.Preparations.{Holds, holds}
 use Rattle.walk.proofs.Demand2.{found-short}
 

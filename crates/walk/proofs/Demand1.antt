@@ -3,9 +3,9 @@
 -- is what the prover shows of each function: it has no `requires`, and every loop has a measure.)
 use Prim.Native.Nat.{ℕ}
 use mathlib.Core.Path.{_≡_, refl, sym, _∙_, ap}
-use mathlib.Core.List.{List, [], _∷_}
+use mathlib.Core.List.{List}
 use mathlib.Core.Option.{Option, none, some}
-use mathlib.Core.Logic.{_↔_, _⊎_, inl, inr, ⊎-elim}
+use mathlib.Core.Logic.{_⊎_, inl, inr}
 use native.Mathlib.Omega.{arith}
 use lib.ListN.{take}
 use Rattle.walk.specs.declared.Status.{Status}
@@ -13,7 +13,7 @@ use Rattle.walk.specs.declared.Status.the-variants.{Found, None, Going}
 use Rattle.walk.specs.Chains.{firstOf, afterOf}
 use Rattle.walk.specs.Question.{Question, status, listing}
 use Rattle.walk.specs.Refusals.{Row, number, start-tests, round-tests, first-tests, next-tests}
-use Rattle.walk.specs.Calls.{Answer, refused, gives, Progress, Reply, NoChain, End, Done, judged, prepared, stepped, put, earliest, later, start, round, first, next}
+use Rattle.walk.specs.Calls.{refused, gives, Progress, Reply, NoChain, End, Done, judged, prepared, stepped, put, earliest, later, start, round, first, next}
 use Rattle.walk.specs.Demands.{NoneGiven, FirstGiven, Refuses, Demand1}
 use Rattle.walk.proofs.Refusals.{first-or-none, judged-none, judged-first}
 

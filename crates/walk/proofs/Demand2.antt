@@ -1,32 +1,27 @@
 -- Demand 2. The area after n rounds is the right one, so each word is the least length in the paper's words; the status is that of the right area, so
 -- at the finish None says that no chain matches and Found gives the least length. While it says Going the count is below V×Q, so it finishes.
-use Prim.Native.Nat.{ℕ, zero, suc, _+_, _*_, _-_, _≤_, _<_}
+use Prim.Native.Nat.{ℕ, zero, suc, _+_, _*_, _≤_, _<_}
 use mathlib.Core.Path.{_≡_, refl, sym, _∙_, subst, ap}
-use mathlib.Core.Bool.{Bool, true, false}
-use mathlib.Core.List.{List, [], _∷_, _++_}
-use mathlib.Core.Logic.{_↔_, _⊎_, inl, inr, ⊎-elim}
+use mathlib.Core.List.{List, _++_}
+use mathlib.Core.Logic.{_⊎_, inl, inr, ⊎-elim}
 use native.Mathlib.Nat.{zero-add}
 use native.Mathlib.Omega.{arith}
-use lib.Dec.{leb}
-use lib.ListN.{length, getD, take, drop, length-append, length-drop, List·getD-append}
-use lib.Seq.{take-at, drop-at, length-front, length-take-le}
-use borrow.Author.Tests.{leb-true, leb-false}
+use lib.ListN.{length, getD, drop, List·getD-append}
+use lib.Seq.{drop-at, length-front, length-take-le}
 use Rattle.walk.specs.declared.Status.{Status}
 use Rattle.walk.specs.declared.Status.the-variants.{Found, None, Going}
 use Rattle.walk.specs.Network.{Network, usable}
 use Rattle.walk.specs.Condition.{Condition}
-use Rattle.walk.specs.Walk.{Joins, Matches, LeastLength, Nearest, Shortest}
+use Rattle.walk.specs.Walk.{LeastLength, Shortest}
 use Rattle.walk.specs.Area as Area
 use Rattle.walk.specs.Question.{Question, pairs, right, status}
-use Rattle.walk.specs.Refusals.{Row, number, lent-tests, start-tests, round-tests}
-use Rattle.walk.specs.Calls.{Answer, refused, gives, Progress, Done, leave, judged, prepared, stepped, start, round}
-use Rattle.walk.specs.Demands.{NoneGiven, FirstGiven, Made, begun, again, Finished, RightWord, NoMatch, Prepared, Demand2, NoPair, Greatest, Counted, CountRule}
+use Rattle.walk.specs.Demands.{Made, begun, Finished, RightWord, NoMatch, Prepared, Demand2}
 use Rattle.walk.proofs.Executable.{Sound}
 use Rattle.walk.proofs.Words.{unreached, word-is}
-use Rattle.walk.proofs.Areas.{length-area, area-at, place-in, front-law}
-use Rattle.walk.proofs.Lengths.{Dist, dist-law, dist-bound, word-dist, dist-word, level}
-use Rattle.walk.proofs.Statuses.{Best, best-law, best-of, match-reach, found-is, going-is, none-is, found-when, descend}
-use Rattle.walk.proofs.Refusals.{first-or-none, judged-none, judged-first, Ready, ready, start-passes, round-passes}
+use Rattle.walk.proofs.Areas.{area-at, place-in}
+use Rattle.walk.proofs.Lengths.{Dist, dist-law, word-dist, dist-word}
+use Rattle.walk.proofs.Statuses.{best-law, match-reach, found-is, none-is}
+use Rattle.walk.proofs.Refusals.{Ready, ready}
 use Rattle.walk.proofs.Preparations.{Holds, holds, right-long, below-pairs, more}
 
 least-same : {P : List ℕ → Type 0} {d e : ℕ} → LeastLength P d → LeastLength P e → d ≡ e

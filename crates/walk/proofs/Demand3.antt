@@ -2,27 +2,25 @@
 -- nothing else, in order of tie number compared from the last tie backwards, and then "end". Any chain of that list, handed back at any time, gets
 -- the one after it, and the last gets "end"."
 -- The list at the least length holds the listed chains and rises in the order; first gives its first, and next the one after.
-use Prim.Native.Nat.{ℕ, zero, suc, _+_, _≤_, _<_}
+use Prim.Native.Nat.{ℕ, _≤_}
 use mathlib.Core.Path.{_≡_, refl, sym, _∙_, subst, ap}
-use mathlib.Core.Bool.{Bool, true, false, not}
-use mathlib.Core.List.{List, [], _∷_, _++_, append-assoc, List·Memᴰ, List·Memᴰ·head, List·Memᴰ·tail, List·Memᴰ·not-nil, List·Memᴰ·cases-cons, Memᴰ·append-right}
-use mathlib.Core.Option.{Option, none, some}
-use mathlib.Core.Logic.{_↔_, _⊎_, inl, inr, ⊎-elim}
+use mathlib.Core.List.{List, [], _∷_, _++_, append-assoc, List·Memᴰ, List·Memᴰ·head, List·Memᴰ·tail, List·Memᴰ·not-nil, Memᴰ·append-right}
+use mathlib.Core.Option.{Option, some}
+use mathlib.Core.Logic.{_↔_}
 use native.Mathlib.Omega.{arith}
-use lib.Dec.{ltb}
 use lib.ListN.{length, take, drop, length-append}
 use lib.Seq.{take-at, drop-at}
 use borrow.Author.Tests.{le-ltb}
 use Rattle.walk.specs.declared.Status.{Status}
-use Rattle.walk.specs.declared.Status.the-variants.{Found, None, Going}
+use Rattle.walk.specs.declared.Status.the-variants.{Found}
 use Rattle.walk.specs.Network.{Network, usable}
 use Rattle.walk.specs.Condition.{Condition}
-use Rattle.walk.specs.Walk.{Joins, Matches, Shortest, Listed}
-use Rattle.walk.specs.Chains.{before, member, firstOf, afterOf}
-use Rattle.walk.specs.Question.{Question, pairs, right, status, listing}
-use Rattle.walk.specs.Refusals.{Row, unfinished, shortChain, notListed, lengthOf, isGoing, isNone, start-tests, round-tests, first-tests, next-tests}
-use Rattle.walk.specs.Calls.{Reply, Chain, NoChain, End, Done, leave, judged, put, earliest, later, first, next}
-use Rattle.walk.specs.Demands.{NoneGiven, Made, Rises, Yields, ends, more, Lists, Demand3}
+use Rattle.walk.specs.Walk.{Shortest, Listed}
+use Rattle.walk.specs.Chains.{firstOf, afterOf}
+use Rattle.walk.specs.Question.{Question, status, listing}
+use Rattle.walk.specs.Refusals.{unfinished, shortChain, notListed, round-tests, first-tests, next-tests}
+use Rattle.walk.specs.Calls.{Chain, NoChain, End, leave, put, earliest, later, first, next}
+use Rattle.walk.specs.Demands.{NoneGiven, Rises, Yields, ends, more, Lists, Demand3}
 use Rattle.walk.proofs.Order.{member-law, stands-once, after-split}
 use Rattle.walk.proofs.Listings.{list-law, listed-law, list-rises}
 use Rattle.walk.proofs.Refusals.{none-append, none-one, judged-none, Ready, ready, start-passes, round-passes}
@@ -49,9 +47,11 @@ module _ (D : Question) (r : ℕ) (a : List ℕ) where
     first-passes : (b : List ℕ) → n ≤ length b → NoneGiven (first-tests D r a b)
     unfolding first-tests unfinished shortChain
     first-passes b l =
-        none-append (round-tests D r a) _ .1
-        (passes, none-append (unfinished D r ∷ []) (shortChain D r b ∷ []) .1
-        (none-one (unfinished D r) .1 (rw S), none-one (shortChain D r b) .1 (rw S (le-ltb (length b) n l))))
+        none-append (round-tests D r a) _ .1 (
+          passes,
+          none-append (unfinished D r ∷ []) (shortChain D r b ∷ []) .1
+              (none-one (unfinished D r) .1 (rw S), none-one (shortChain D r b) .1 (rw S (le-ltb (length b) n l))),
+        )
 
     next-passes : (b : List ℕ) → n ≤ length b → List·Memᴰ (take n b) (listing D n) → NoneGiven (next-tests D r a b)
     unfolding next-tests notListed

@@ -1,8 +1,7 @@
 -- What is computed is what the walk paper says: for joining, reaching and matching. A run along a chain is taken apart at its first tie, and
 -- a chain of n + 1 ties at its last; `leads` is one tie and one move of it.
-use Prim.Native.Nat.{ℕ, zero, suc, _+_, _≤_, _<_}
+use Prim.Native.Nat.{ℕ, zero, suc, _+_, _<_}
 use mathlib.Core.Path.{_≡_, refl, sym, _∙_, subst}
-use mathlib.Core.Bool.{true}
 use mathlib.Core.List.{List, [], _∷_, _++_}
 use mathlib.Core.Logic.{_↔_}
 use native.Mathlib.Nat.{add-suc, suc-add, add-zero, zero-add}

@@ -3,7 +3,6 @@
 use Prim.Native.Nat.{ℕ, zero, suc, _+_, _*_, _-_, _/_, _%_, _≤_, _<_, zero-le, min}
 use mathlib.Core.Path.{_≡_, refl, sym, _∙_, subst, subst₂, ap}
 use mathlib.Core.Bool.{Bool, true, false}
-use mathlib.Core.List.{List}
 use mathlib.Core.Logic.{_↔_, _⊎_, inl, inr, ⊎-elim}
 use native.Mathlib.Nat.{not-suc-le-zero}
 use native.Mathlib.Omega.{arith}
@@ -13,7 +12,7 @@ use borrow.Author.Tests.{eqb-true, eqb-false}
 use Rattle.walk.specs.Numbers.{pick}
 use Rattle.walk.specs.Network.{Network}
 use Rattle.walk.specs.Condition.{Condition}
-use Rattle.walk.specs.Walk.{Joins, Reaches, Nearest}
+use Rattle.walk.specs.Walk.{Nearest}
 use Rattle.walk.specs.Area.{pairs, reach, word, area, front}
 use Rattle.walk.proofs.Tests.{Yes, table-ext}
 use Rattle.walk.proofs.Executable.{Sound, Arc, arc-in, reach-law, reach-suc, suc-reach}

@@ -1,7 +1,7 @@
 -- The list holds exactly the paper's chains: those of its length that join s to t and match; at the least length, the listed ones. It rises in
 -- the order, so each stands once.
-use Prim.Native.Nat.{ℕ, _≤_, _<_}
-use mathlib.Core.Path.{_≡_, refl, sym, subst}
+use Prim.Native.Nat.{ℕ}
+use mathlib.Core.Path.{_≡_, sym, subst}
 use mathlib.Core.List.{List, [], _∷_, List·Memᴰ}
 use mathlib.Core.Logic.{_↔_}
 use native.Mathlib.Omega.{arith}
@@ -9,7 +9,7 @@ use lib.ListN.{length}
 use Rattle.walk.specs.Network.{Network, ties, toOf}
 use Rattle.walk.specs.Condition.{Condition}
 use Rattle.walk.specs.Walk.{Joins, Matches, Shortest, Listed}
-use Rattle.walk.specs.Chains.{rows, sieve, matches, list}
+use Rattle.walk.specs.Chains.{rows, matches, list}
 use Rattle.walk.specs.Demands.{Rises}
 use Rattle.walk.proofs.Executable.{Sound, matches-law}
 use Rattle.walk.proofs.Order.{Below, mem-rows, rows-mem, rises-rows, sieve-mem, mem-sieve, rises-sieve}

@@ -1,14 +1,10 @@
 -- The three demands applied to network N of document 01, so that none of them is empty: what they say of a real session.
-use Prim.Native.Nat.{ℕ, _<_}
-use mathlib.Core.Path.{_≡_, refl, sym, _∙_, subst}
-use mathlib.Core.List.{List, [], _∷_, _++_, List·Memᴰ, List·Memᴰ·head}
-use mathlib.Core.Logic.{_↔_}
+use Prim.Native.Nat.{ℕ}
+use mathlib.Core.Path.{_≡_, refl}
 use native.Mathlib.Omega.{arith}
-use lib.ListN.{getD}
-use Rattle.walk.specs.declared.Status.the-variants.{Found, None, Going}
+use Rattle.walk.specs.declared.Status.the-variants.{Found, Going}
 use Rattle.walk.specs.Network.{usable}
-use Rattle.walk.specs.Walk.{Nearest, Shortest, Listed}
-use Rattle.walk.specs.Question.{listing}
+use Rattle.walk.specs.Walk.{Shortest}
 use Rattle.walk.specs.Refusals.{Row, number, next-tests}
 use Rattle.walk.specs.Cases.{netN, setsN, condN, N, blank, after2, buf}
 use Rattle.walk.specs.Demands.{FirstGiven, Made, begun, again, Prepared, Counted, Lists}

@@ -2,16 +2,15 @@
 -- is the one that comes after c with none between.
 use Prim.Native.Nat.{ℕ, zero, suc, _<_}
 use mathlib.Core.Path.{_≡_, refl, sym, _∙_, ap, ap₂}
-use mathlib.Core.Bool.{Bool, true, false, _||_, false≢true}
+use mathlib.Core.Bool.{Bool, true, false, false≢true}
 use mathlib.Core.List.{List, [], _∷_, _++_, map, head-eq-of-cons-eq, tail-eq-of-cons-eq, List·Memᴰ, List·Memᴰ·head, List·Memᴰ·tail, List·Memᴰ·not-nil, List·Memᴰ·cases-cons, List·Memᴰ·append-cases, Memᴰ·append-left, Memᴰ·append-right}
-use mathlib.Core.Option.{Option, none, some}
+use mathlib.Core.Option.{none, some}
 use mathlib.Core.Logic.{_↔_, _⊎_, inl, inr, ⊎-elim}
 use native.Mathlib.Nat.{not-suc-le-zero, le-of-suc-le-suc}
 use native.Mathlib.Omega.{arith}
-use lib.Dec.{ltb}
 use lib.ListN.{length}
 use borrow.Author.Tests.{ltb-true, lt-ltb}
-use Rattle.walk.specs.Numbers.{_and_, pick, table, same}
+use Rattle.walk.specs.Numbers.{pick, table, same}
 use Rattle.walk.specs.Chains.{before, joined, rows, sieve, member, firstOf, afterOf}
 use Rattle.walk.specs.Demands.{Rises}
 use Rattle.walk.proofs.Tests.{Yes, and-in, and-of, or-in, or-left, or-right, same-refl, same-eq, same-of}

@@ -1,32 +1,25 @@
 -- What holds after start and any number of rounds: the count is their number, the status is that of the right area, and the area is the right one
 -- with the words behind it as they were. By induction over the calls: each that is not refused passes its tests, and a round made on a Going area
 -- writes the right area for one round more. A pair stands at a count that is Going, so such a count is below V×Q.
-use Prim.Native.Nat.{ℕ, zero, suc, _+_, _*_, _-_, _≤_, _<_}
-use mathlib.Core.Path.{_≡_, refl, sym, _∙_, subst, ap}
-use mathlib.Core.Bool.{Bool, true, false}
-use mathlib.Core.List.{List, [], _∷_, _++_}
-use mathlib.Core.Logic.{_↔_, _⊎_, inl, inr, ⊎-elim}
-use native.Mathlib.Nat.{zero-add}
+use Prim.Native.Nat.{ℕ, suc, _≤_, _<_}
+use mathlib.Core.Path.{_≡_, sym, _∙_, ap}
+use mathlib.Core.List.{List, _++_}
+use mathlib.Core.Logic.{⊎-elim}
 use native.Mathlib.Omega.{arith}
-use lib.Dec.{leb}
-use lib.ListN.{length, getD, take, drop, length-append, length-drop, List·getD-append}
-use lib.Seq.{take-at, drop-at, length-front, length-take-le}
-use borrow.Author.Tests.{leb-true, leb-false}
+use lib.ListN.{length, take, drop, length-append}
+use lib.Seq.{take-at, drop-at}
 use Rattle.walk.specs.declared.Status.{Status}
-use Rattle.walk.specs.declared.Status.the-variants.{Found, None, Going}
+use Rattle.walk.specs.declared.Status.the-variants.{Going}
 use Rattle.walk.specs.Network.{Network, usable}
 use Rattle.walk.specs.Condition.{Condition}
-use Rattle.walk.specs.Walk.{Joins, Matches, LeastLength, Nearest, Shortest}
-use Rattle.walk.specs.Area as Area
 use Rattle.walk.specs.Question.{Question, pairs, right, status}
 use Rattle.walk.specs.Refusals.{Row, number, lent-tests, start-tests, round-tests}
-use Rattle.walk.specs.Calls.{Answer, refused, gives, Progress, Done, leave, judged, prepared, stepped, start, round}
-use Rattle.walk.specs.Demands.{NoneGiven, FirstGiven, Made, begun, again, Finished, RightWord, NoMatch, Prepared, Demand2, NoPair, Greatest, Counted, CountRule}
-use Rattle.walk.proofs.Executable.{Sound}
-use Rattle.walk.proofs.Words.{unreached, word-is}
-use Rattle.walk.proofs.Areas.{length-area, area-at, place-in, front-law}
-use Rattle.walk.proofs.Lengths.{Dist, dist-law, dist-bound, word-dist, dist-word, level}
-use Rattle.walk.proofs.Statuses.{Best, best-law, best-of, match-reach, found-is, going-is, none-is, found-when, descend}
+use Rattle.walk.specs.Calls.{refused, gives, Progress, Done, leave, judged, prepared, stepped, start, round}
+use Rattle.walk.specs.Demands.{NoneGiven, Made, begun, again}
+use Rattle.walk.proofs.Words.{unreached}
+use Rattle.walk.proofs.Areas.{length-area, front-law}
+use Rattle.walk.proofs.Lengths.{dist-bound, word-dist}
+use Rattle.walk.proofs.Statuses.{going-is}
 use Rattle.walk.proofs.Refusals.{first-or-none, judged-none, judged-first, Ready, ready, start-passes, round-passes}
 
 -- a call that gives something was refused by no row

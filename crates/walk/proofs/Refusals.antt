@@ -1,29 +1,29 @@
 -- The table of refusals: the first row of a call's list that is given answers, with its number and place; where none is given the call does its
 -- work, and what the rows test then holds.
-use Prim.Native.Nat.{ℕ, zero, suc, _*_, _^_, _≤_, _<_}
-use mathlib.Core.Path.{_≡_, refl, sym, _∙_, subst, ap}
-use mathlib.Core.Bool.{Bool, true, false, false≢true, not}
-use mathlib.Core.List.{List, [], _∷_, _++_, List·Memᴰ, List·Memᴰ·head, List·Memᴰ·tail, List·Memᴰ·not-nil, List·Memᴰ·cases-cons, List·Memᴰ·append-cases, Memᴰ·append-left, Memᴰ·append-right}
+use Prim.Native.Nat.{ℕ, _^_, _≤_, _<_}
+use mathlib.Core.Path.{_≡_, refl, _∙_, ap}
+use mathlib.Core.Bool.{Bool, true, false, not}
+use mathlib.Core.List.{List, [], _∷_, _++_, List·Memᴰ·head, List·Memᴰ·tail, List·Memᴰ·not-nil, List·Memᴰ·cases-cons, List·Memᴰ·append-cases, Memᴰ·append-left, Memᴰ·append-right}
 use mathlib.Core.Logic.{_↔_, _⊎_, inl, inr, ⊎-elim}
 use native.Mathlib.Nat.{mul-le-mul}
 use native.Mathlib.Omega.{arith}
-use lib.Dec.{leb, ltb, eqb}
-use lib.ListN.{length, getD, take, List·getD-eq-default}
+use lib.Dec.{ltb}
+use lib.ListN.{length, take, List·getD-eq-default}
 use borrow.Author.Tests.{eqb-true, ltb-true, ltb-false, le-ltb, leb-true, le-leb, not-false}
 use Rattle.walk.specs.declared.Refusal.{Refusal}
 use Rattle.walk.specs.declared.Refusal.the-variants.{BadTie, BadMove}
 use Rattle.walk.specs.Ceilings.{ceilings}
-use Rattle.walk.specs.Numbers.{has, _and_, anyBelow, least, onlyBelow, same}
+use Rattle.walk.specs.Numbers.{has, least, onlyBelow}
 use Rattle.walk.specs.Network.{Network, ties, fromOf, toOf, kindsOf, usable}
 use Rattle.walk.specs.Condition.{Condition, moveAt, starts, accepts, follows}
 use Rattle.walk.specs.Question.{Question, pairs, right}
 use Rattle.walk.specs.Refusals.{Row, atFirst, number, sizes, badTie, badCondition, badMove, badEnds, shortArea, wrongArea, lent-tests, start-tests, round-tests}
-use Rattle.walk.specs.Calls.{Answer, refused, Done, judged}
+use Rattle.walk.specs.Calls.{refused, Done, judged}
 use Rattle.walk.specs.Demands.{NoneGiven, FirstGiven}
 use Rattle.walk.proofs.Tests.{Yes, and-in, and-of, anyBelow-in, least-is, same-eq, same-of}
 use Rattle.walk.proofs.Sets.{zero-has, has-below}
 use Rattle.walk.proofs.Executable.{Sound}
-use Rattle.walk.proofs.Words.{unreached, Local, local-law}
+use Rattle.walk.proofs.Words.{Local, local-law}
 use Rattle.walk.proofs.Areas.{at, area-right}
 
 -- ---- which row answers

@@ -2,7 +2,7 @@
 use mathlib.Core.Path.{_≡_, refl, sym, ap, subst, _∙_}
 use mathlib.Core.Logic.{_⊎_, inl, inr, ⊎-elim}
 use mathlib.Core.Bool.{Bool, true, false, not, false≢true}
-use Prim.Native.Nat.{ℕ, zero, suc, _+_, _-_, _*_, _/_, _%_, _^_, _≤_, _<_, max, min}
+use Prim.Native.Nat.{ℕ, zero, suc, _+_, _-_, _*_, _/_, _%_, _^_, _<_, max}
 use native.Mathlib.Nat.{one-mul, div-eq-of-lt, mod-lt, le-of-suc-le-suc, eq-or-lt-of-le, lt-suc-self, pow-suc, lt-trans, lt-of-lt-of-le, not-suc-le-zero}
 use native.Mathlib.Omega.{arith, ne-cases, max-cases}
 use lib.Arith.{digits-mod}

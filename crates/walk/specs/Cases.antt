@@ -3,7 +3,6 @@
 use Prim.Native.Nat.{ℕ}
 use mathlib.Core.List.{List, [], _∷_}
 use Rattle.walk.specs.declared.Move.{Move}
-use Rattle.walk.specs.declared.Status.{Status}
 use Rattle.walk.specs.declared.Status.the-variants.{Found, None, Going}
 use Rattle.walk.specs.Network.{Network}
 use Rattle.walk.specs.Condition.{Condition}

@@ -6,7 +6,7 @@ use Rattle.walk.specs.declared.Status.the-variants.{Found, None, Going}
 use Rattle.walk.specs.Network.{Network}
 use Rattle.walk.specs.Condition.{Condition}
 use Rattle.walk.specs.Question.{Question}
-use Rattle.walk.specs.Sessions.{Call, start, round, first, next, Heard, refused, chain, none, end, after, Session}
+use Rattle.walk.specs.Sessions.{start, round, first, next, refused, chain, none, end, after, Session}
 use Rattle.walk.specs.Cases.{step, session, move, ask, netN, setsN, condN, N, x, blank, after0, after1, after2, buf, o}
 
 -- a network of the ties from, to, kinds, with V marks and K kinds, under one state that starts and accepts and follows itself under kind 0

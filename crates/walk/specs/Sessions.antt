@@ -1,12 +1,10 @@
 -- Sessions at the desk: calls made one after the other on what was lent once, each with its answer and with both buffers after it.
 use Prim.Native.Nat.{ℕ, zero, suc, _+_}
-use mathlib.Core.Bool.{Bool, true, false}
 use mathlib.Core.List.{List, [], _∷_}
 use Rattle.walk.specs.declared.Status.{Status}
 use Rattle.walk.specs.Numbers.{has, _and_, pick}
 use Rattle.walk.specs.Network.{Network, kindsOf}
 use Rattle.walk.specs.Condition.{Condition, starts, accepts, follows}
-use Rattle.walk.specs.Chains.{before}
 use Rattle.walk.specs.Question.{Question}
 use Rattle.walk.specs.Calls as Calls
 
