@@ -1,4 +1,4 @@
-pub mod Claims
+pub mod AllCases
 pub mod Tests
 pub mod Sets
 pub mod Executable

@@ -8,7 +8,7 @@ use Rattle.walk.specs.Walk.{Shortest}
 use Rattle.walk.specs.Refusals.{Row, number, next-tests}
 use Rattle.walk.specs.Cases.{netN, setsN, condN, N, blank, after2, buf}
 use Rattle.walk.specs.Demands.{FirstGiven, Made, begun, again, Prepared, Counted, Lists}
-use Rattle.walk.proofs.Claims.{claims}
+use Rattle.walk.proofs.AllCases.{claims}
 use Rattle.walk.proofs.Demand1.{demand-1}
 use Rattle.walk.proofs.Demand2.{demand-2}
 use Rattle.walk.proofs.CountRule.{count-rule}
