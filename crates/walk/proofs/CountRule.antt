@@ -16,7 +16,7 @@ use Rattle.walk.proofs.Executable.{Sound}
 use Rattle.walk.proofs.Words.{unreached}
 use Rattle.walk.proofs.Areas.{front-law}
 use Rattle.walk.proofs.Lengths.{Dist, dist-law, word-dist, dist-word, level}
-use Rattle.walk.proofs.Statuses.{best-law, going-is, none-is}
+use Rattle.walk.proofs.Statuses.{shortest-law, going-is, none-is}
 use Rattle.walk.proofs.Refusals.{Ready, ready}
 use Rattle.walk.proofs.Preparations.{Holds, holds}
 use Rattle.walk.proofs.Demand2.{found-short}
@@ -56,9 +56,8 @@ module _ (D : Question) where
         found d e =
             let (h, L) = found-short D R n d few (sym (H .is) ∙ e) in
             let c = H .count in
-            let B = best-law N C s t ok d .1 L in
-            let (q, x, y) = B .met in
-            let not-less : ¬ (d < n) = λ l. going-is N C s t ok (R .to-in) (n - 1) (omega (arith, few)) (H .going (n - 1) (omega arith)) .1 d q (omega arith) x y in
+            let F = shortest-law N C s t ok d .1 L in
+            let not-less : ¬ (d < n) = λ l. going-is N C s t ok (R .to-in) (n - 1) (omega (arith, few)) (H .going (n - 1) (omega arith)) .1 d (omega arith) (F .met) in
             omega arith
 
         -- no pair has a least length of n or more

@@ -20,7 +20,7 @@ use Rattle.walk.proofs.Executable.{Sound}
 use Rattle.walk.proofs.Words.{unreached, word-is}
 use Rattle.walk.proofs.Areas.{area-at, place-in}
 use Rattle.walk.proofs.Lengths.{Dist, dist-law, word-dist, dist-word}
-use Rattle.walk.proofs.Statuses.{best-law, match-reach, found-is, none-is}
+use Rattle.walk.proofs.Statuses.{matched-law, shortest-law, found-is, none-is}
 use Rattle.walk.proofs.Refusals.{Ready, ready}
 use Rattle.walk.proofs.Preparations.{Holds, holds, right-long, below-pairs, more}
 
@@ -65,13 +65,12 @@ module _ (D : Question) where
   -- what the status after n rounds says of matching chains
   pub found-short : Ready D → (n d : ℕ) → n < unreached → status D n ≡ Found d → (d ≤ n) × Shortest N C s t d
   unfolding status
-  found-short R n d few e = let (h, B) = found-is N C s t (R .sound) (R .to-in) n few d e in (h, best-law N C s t (R .sound) d .0 B)
+  found-short R n d few e = let (h, F) = found-is N C s t (R .sound) (R .to-in) n few d e in (h, shortest-law N C s t (R .sound) d .0 F)
 
   none-match : Ready D → (n : ℕ) → n < unreached → status D n ≡ None → NoMatch D
   unfolding status
   none-match R n few e c j m =
-      let (q, a, h) = match-reach N C s t (R .sound) c j m in
-      none-is N C s t (R .sound) (R .to-in) n few e .1 (length c) q a h
+      none-is N C s t (R .sound) (R .to-in) n few e .1 (length c) (matched-law N C s t (R .sound) (length c) .1 (c, refl, (j, m)))
 
   module _ (w : List ℕ) where
     finish : (k n m : ℕ) (S : Status) (a : List ℕ) → n + k ≡ pairs D → Made D w n m S a → (i : ℕ) × (j : ℕ) × (T : Status) × (b : List ℕ) × Made D w i j T b × Finished T

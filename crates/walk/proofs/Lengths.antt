@@ -14,7 +14,7 @@ use Rattle.walk.specs.Network.{Network}
 use Rattle.walk.specs.Condition.{Condition}
 use Rattle.walk.specs.Walk.{Nearest}
 use Rattle.walk.specs.Area.{pairs, reach, word, area, front}
-use Rattle.walk.proofs.Tests.{Yes, table-ext}
+use Rattle.walk.proofs.Tests.{Yes, FirstAt, first-one, table-ext}
 use Rattle.walk.proofs.Executable.{Sound, Arc, arc-in, reach-law, reach-suc, suc-reach}
 use Rattle.walk.proofs.Words.{unreached, Word, word-is, one-word}
 use Rattle.walk.proofs.Areas.{place-in, mark-of, state-of, pair-in, front-law}
@@ -48,15 +48,8 @@ pigeon (suc m) (suc n) f h k = let r = pigeon m n g low apart in omega arith
 
 module _ (N : Network) (C : Condition) (s : ℕ) where
   -- d is the least length of a chain from s to v that reaches q, by what is computed
-  pub record Dist (d v q : ℕ) : Type 0 where
-    pub met : Yes (reach N C s d v q)
-    pub least : (m : ℕ) → m < d → Yes (reach N C s m v q) → ⊥
-
-  dist-one : (d e v q : ℕ) → Dist d v q → Dist e v q → d ≡ e
-  dist-one d e v q D E =
-      let x : ¬ (d < e) = λ h. E .least d h (D .met) in
-      let y : ¬ (e < d) = λ h. D .least e h (E .met) in
-      omega arith
+  abbrev pub Dist : ℕ → ℕ → ℕ → Type 0
+  Dist d v q = FirstAt (λ n. reach N C s n v q) d
 
   pub word-dist : (r d v q : ℕ) → r < unreached → word N C s r v q ≡ d → d ≤ r → Dist d v q
   word-dist r d v q few e h =
@@ -110,7 +103,7 @@ module _ (N : Network) (C : Condition) (s : ℕ) where
             let m : at i .0 ≡ at j .0 = sym (mark-of (C .states) (at i .0) (at i .1) (at i .3)) ∙ ap (λ (k : ℕ). k / C .states) e ∙ mark-of (C .states) (at j .0) (at j .1) (at j .3) in
             let n : at i .1 ≡ at j .1 = sym (state-of (C .states) (at i .0) (at i .1) (at i .3)) ∙ ap (λ (k : ℕ). k % C .states) e ∙ state-of (C .states) (at j .0) (at j .1) (at j .3) in
             let E : Dist (min i d) (at j .0) (at j .1) = subst₂ (λ (x y : ℕ). Dist (min i d) x y) m n (at i .4) in
-            let z = dist-one (min i d) (min j d) (at j .0) (at j .1) E (at j .4) in
+            let z = first-one (λ m. reach N C s m (at j .0) (at j .1)) (min i d) (min j d) E (at j .4) in
             omega arith
 
     -- 01: "65,535 marks an unreached pair in the area and stands nowhere else"

@@ -70,6 +70,24 @@ least-is p (suc b) = go (p zero) refl (least-is (λ n. p (suc n)) b)
         nb zero h t = false≢true (sym e ∙ t)
         nb (suc m) h t = r .none-before m (le-of-suc-le-suc h) t
 
+-- d is the least number of all that passes
+pub record FirstAt (p : ℕ → Bool) (d : ℕ) : Type 0 where
+  pub met : Yes (p d)
+  pub least : (m : ℕ) → m < d → Yes (p m) → ⊥
+
+pub first-one : (p : ℕ → Bool) (d e : ℕ) → FirstAt p d → FirstAt p e → d ≡ e
+first-one p d e D E =
+    let x : ¬ (d < e) = λ h. E .least d h (D .met) in
+    let y : ¬ (e < d) = λ h. D .least e h (E .met) in
+    omega arith
+
+-- where one number passes there is a least
+pub first-below : (p : ℕ → Bool) (m : ℕ) → Yes (p m) → (d : ℕ) × (d ≤ m) × FirstAt p d
+first-below p m t =
+    let L = least-is p (suc m) in
+    let b : least p (suc m) ≤ m = (let n : ¬ (m < least p (suc m)) = λ h. L .none-before m h t in omega arith) in
+    (least p (suc m), b, record { met = L .passes (omega arith); least = L .none-before })
+
 pub length-table {ℓ} : {A : Type ℓ} (n : ℕ) (f : ℕ → A) → length (table n f) ≡ n
 unfolding table
 length-table zero f = refl
