@@ -5,7 +5,7 @@ use mathlib.Core.Path.{_≡_, refl}
 use mathlib.Core.Bool.{Bool, true, false}
 use mathlib.Core.List.{List, [], _∷_, map}
 use Rattle.walk.specs.declared.Status.{Status}
-use Rattle.walk.specs.declared.Status.the-variants.{Found, Going}
+use Rattle.walk.specs.declared.Status.the-variants.{Found, None, Going}
 use Rattle.walk.specs.Numbers.{has, _and_, anyBelow, least, table, onlyBelow, setBelow, tally, same}
 use Rattle.walk.specs.Network.{usable}
 use Rattle.walk.specs.Condition.{starts, accepts, follows}
@@ -15,7 +15,7 @@ use Rattle.walk.specs.Question as Q
 use Rattle.walk.specs.Refusals as R
 use Rattle.walk.specs.Calls as K
 use Rattle.walk.specs.Sessions.{run, play, sumBelow, waysFrom, ways}
-use Rattle.walk.specs.Cases.{starred, netN, setsN, condN, N, blank, after0, after1, after2, buf}
+use Rattle.walk.specs.Cases.{starred, netN, setsN, condN, N, blank, after0, after1, after2, lone, lone0, buf}
 use Rattle.walk.specs.OwnCases.{own}
 
 abbrev progress : ℕ → Status → List ℕ → K.Done K.Progress
@@ -48,11 +48,13 @@ pub record Claims : Type 0 where
   -- the last place where two chains differ decides
   pub last-decides : C.before (1 ∷ 2 ∷ []) (0 ∷ 3 ∷ []) ≡ true
   pub not-the-first : C.before (0 ∷ 3 ∷ []) (1 ∷ 2 ∷ []) ≡ false
-  -- the preparation and the list of N, call by call
+  -- the preparation and the list of N, and the preparation from 3 to 3, call by call
   pub started : K.start N blank ≡ progress 0 Going after0
   pub once : K.round N 0 after0 ≡ progress 1 Going after1
   pub twice : K.round N 1 after1 ≡ progress 2 (Found 2) after2
   pub listed : Q.listing N 2 ≡ (0 ∷ 3 ∷ []) ∷ (1 ∷ 3 ∷ []) ∷ (2 ∷ 4 ∷ []) ∷ []
+  pub lone-started : K.start lone blank ≡ progress 0 Going lone0
+  pub lone-once : K.round lone 0 lone0 ≡ progress 1 None lone0
   pub refused : K.next N 2 after2 (buf 0 4) .answer ≡ K.refused 11 0
 
 pub claims : Claims
@@ -74,5 +76,7 @@ claims = record {
   once = refl;
   twice = refl;
   listed = refl;
+  lone-started = refl;
+  lone-once = refl;
   refused = refl;
 }

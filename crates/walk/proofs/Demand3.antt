@@ -120,7 +120,6 @@ module _ (D : Question) (r : ℕ) (a : List ℕ) where
 
     pub lists : Lists D r a n
     lists = record {
-      chains = listing D n;
       all = listed;
       rises = rising;
       once = λ xs c ys e. stands-once xs c ys (subst (λ (l : List (List ℕ)). Rises l) e rising);

@@ -9,6 +9,7 @@ pub mod Statuses
 pub mod Order
 pub mod Listings
 pub mod Back
+pub mod FirstNext
 pub mod Refusals
 pub mod Demand1
 pub mod Preparations

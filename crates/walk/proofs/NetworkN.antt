@@ -1,13 +1,16 @@
 -- The three demands applied to network N of document 01, so that none of them is empty: what they say of a real session.
 use Prim.Native.Nat.{ℕ}
-use mathlib.Core.Path.{_≡_, refl}
+use mathlib.Core.Path.{_≡_, refl, subst}
+use mathlib.Core.List.{List, [], _∷_, List·Memᴰ}
+use mathlib.Core.Logic.{_↔_}
 use native.Mathlib.Omega.{arith}
-use Rattle.walk.specs.declared.Status.the-variants.{Found, Going}
+use Rattle.walk.specs.declared.Status.the-variants.{Found, None, Going}
 use Rattle.walk.specs.Network.{usable}
-use Rattle.walk.specs.Walk.{Shortest}
+use Rattle.walk.specs.Walk.{Shortest, Listed}
 use Rattle.walk.specs.Refusals.{Row, number, next-tests}
-use Rattle.walk.specs.Cases.{netN, setsN, condN, N, blank, after2, buf}
-use Rattle.walk.specs.Demands.{FirstGiven, Made, begun, again, Prepared, Counted, Lists}
+use Rattle.walk.specs.Sessions.{ways}
+use Rattle.walk.specs.Cases.{netN, setsN, condN, N, blank, after2, lone, lone0, buf}
+use Rattle.walk.specs.Demands.{FirstGiven, Made, begun, again, NoMatch, Prepared, Counted, Lists}
 use Rattle.walk.proofs.AllCases.{claims}
 use Rattle.walk.proofs.Demand1.{demand-1}
 use Rattle.walk.proofs.Demand2.{demand-2}
@@ -35,6 +38,23 @@ least-length = prepared .found finished 2 .0 refl
 pub counted : Counted N 2 2 (Found 2)
 counted = count-rule N blank 2 2 (Found 2) after2 made
 
--- demand 3: first and next give the three chains, and chain 0 3, met in four ways, stands once
+-- from 3 to 3 it says None after one round: no chain matches, and the count is 1 more than the greatest least length
+lone-made : Made lone blank 1 1 None lone0
+lone-made = again (begun (claims .lone-started)) (claims .lone-once)
+
+pub no-chain : NoMatch lone
+no-chain = demand-2 lone blank .right 1 1 None lone0 lone-made .none (λ e. (let z : _≡_ {A = ℕ} 0 1 = cc in omega arith)) .0 refl
+
+pub lone-counted : Counted lone 1 1 None
+lone-counted = count-rule lone blank 1 1 None lone0 lone-made
+
+-- demand 3: first and next give the list, and the list is these three chains, which are exactly the listed ones
 pub lists : Lists N 2 after2 2
 lists = demand-3 N blank 2 2 2 after2 made
+
+pub three-chains : (c : List ℕ) → List·Memᴰ c ((0 ∷ 3 ∷ []) ∷ (1 ∷ 3 ∷ []) ∷ (2 ∷ 4 ∷ []) ∷ []) ↔ Listed (usable (netN setsN)) (condN 1) 0 3 c
+three-chains c = subst (λ (l : List (List ℕ)). List·Memᴰ c l ↔ Listed (usable (netN setsN)) (condN 1) 0 3 c) (claims .listed) (lists .all c)
+
+-- chain 0 3 can be met in four ways and stands once
+pub stands-once : (ways (netN setsN) (condN 1) (0 ∷ 3 ∷ []) ≡ 4) × (List·Memᴰ {A = List ℕ} (0 ∷ 3 ∷ []) ((1 ∷ 3 ∷ []) ∷ (2 ∷ 4 ∷ []) ∷ []) → ⊥)
+stands-once = (claims .four-ways, lists .once [] (0 ∷ 3 ∷ []) ((1 ∷ 3 ∷ []) ∷ (2 ∷ 4 ∷ []) ∷ []) (claims .listed) .1)

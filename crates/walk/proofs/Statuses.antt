@@ -1,7 +1,7 @@
 -- The status of the right area, in the paper's words: Found with the least length of a matching chain, None exactly when no chain matches and
 -- no pair is left at the count, Going before either. A match of a greater length would pass through a pair at the count.
 use Prim.Native.Nat.{ℕ, suc, _-_, _≤_, _<_}
-use mathlib.Core.Path.{_≡_, refl, sym, subst}
+use mathlib.Core.Path.{_≡_, refl, subst}
 use mathlib.Core.Bool.{Bool, true, false}
 use mathlib.Core.List.{List}
 use mathlib.Core.Logic.{_↔_}

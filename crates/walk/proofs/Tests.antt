@@ -109,12 +109,6 @@ yes-same {a = true} {b} f g = sym (f refl)
 yes-same {a = false} {b = true} f g = g refl
 yes-same {a = false} {b = false} f g = refl
 
-pub same-least : (p : ℕ → Bool) (b k l : ℕ) → Least p b k → Least p b l → k ≡ l
-same-least p b k l K L =
-    let x : ¬ (k < l) = λ h. let y = L .within in L .none-before k h (K .passes (omega arith)) in
-    let z : ¬ (l < k) = λ h. let y = K .within in K .none-before l h (L .passes (omega arith)) in
-    omega arith
-
 -- ---- equal lists
 pub same-refl : (c : List ℕ) → Yes (same c c)
 unfolding same

@@ -34,6 +34,10 @@ ask n c s t = record { network = n; condition = c; from = s; to = t }
 abbrev pub N : Question
 N = ask (netN setsN) (condN 1) 0 3
 
+-- from 3 to 3
+abbrev pub lone : Question
+lone = ask (netN setsN) (condN 1) 3 3
+
 -- ---- its areas: as lent, and after no, one and two rounds
 abbrev pub x : ℕ
 x = 65535
@@ -49,6 +53,9 @@ after1 = 0 ∷ x ∷ 1 ∷ 1 ∷ 1 ∷ 1 ∷ x ∷ x ∷ 5 ∷ []
 
 abbrev pub after2 : List ℕ
 after2 = 0 ∷ x ∷ 1 ∷ 1 ∷ 1 ∷ 1 ∷ 2 ∷ 2 ∷ 5 ∷ []
+
+abbrev pub lone0 : List ℕ
+lone0 = x ∷ x ∷ x ∷ x ∷ x ∷ x ∷ 0 ∷ x ∷ 5 ∷ []
 
 -- a chain buffer: two words, and one past the least length
 abbrev pub buf : ℕ → ℕ → List ℕ
@@ -83,9 +90,7 @@ starred =
     step start (after 0 Going) after0 o ∷ step (round 0) (after 1 Going) after1 o ∷ step (round 1) (after 2 (Found 2)) after2 o
     ∷ step (first 2) chain after2 (buf 0 3) ∷ step (next 2) chain after2 (buf 2 4) ∷ step (next 2) end after2 (buf 2 4) ∷ [])
     -- 6: from 3 to 3
-    ∷ session (ask (netN setsN) (condN 1) 3 3) blank o (
-    step start (after 0 Going) (x ∷ x ∷ x ∷ x ∷ x ∷ x ∷ 0 ∷ x ∷ 5 ∷ []) o ∷ step (round 0) (after 1 None) (x ∷ x ∷ x ∷ x ∷ x ∷ x ∷ 0 ∷ x ∷ 5 ∷ []) o
-    ∷ step (first 1) none (x ∷ x ∷ x ∷ x ∷ x ∷ x ∷ 0 ∷ x ∷ 5 ∷ []) o ∷ [])
+    ∷ session lone blank o (step start (after 0 Going) lone0 o ∷ step (round 0) (after 1 None) lone0 o ∷ step (first 1) none lone0 o ∷ [])
     -- 7: the empty chain
     ∷ session (bare 1 0) (7 ∷ 5 ∷ []) (9 ∷ []) (step start (after 0 (Found 0)) (0 ∷ 5 ∷ []) (9 ∷ []) ∷ step (first 0) chain (0 ∷ 5 ∷ []) (9 ∷ []) ∷ step (next 0) end (0 ∷ 5 ∷ []) (9 ∷ []) ∷ [])
     -- 8: no start state

@@ -12,7 +12,7 @@ use Rattle.walk.specs.Network.{Network, usable}
 use Rattle.walk.specs.Condition.{Condition}
 use Rattle.walk.specs.Walk.{Joins, Matches, Nearest, Shortest, Listed}
 use Rattle.walk.specs.Chains.{before}
-use Rattle.walk.specs.Question.{Question, pairs}
+use Rattle.walk.specs.Question.{Question, pairs, listing}
 use Rattle.walk.specs.Refusals.{Row, number, start-tests, round-tests, first-tests, next-tests}
 use Rattle.walk.specs.Calls.{Progress, refused, Chain, End, Done, leave, start, round, first, next}
 
@@ -109,15 +109,14 @@ module _ (D : Question) where
     ends : {c : List ℕ} → next D r a (c ++ x) ≡ leave End (c ++ x) → Yields r a x c []
     more : {c y : List ℕ} {l : List (List ℕ)} → next D r a (c ++ x) ≡ leave Chain (y ++ x) → Yields r a x y l → Yields r a x c (y ∷ l)
 
-  -- the count is r, the area is a, and the least length is n
+  -- the list of chains of least length n, with the count r and the area a
   pub record Lists (r : ℕ) (a : List ℕ) (n : ℕ) : Type 0 where
-    pub chains : List (List ℕ)
-    pub all : (c : List ℕ) → List·Memᴰ c chains ↔ Listed N C (D .from) (D .to) c
-    pub rises : Rises chains
-    pub once : (xs : List (List ℕ)) (c : List ℕ) (ys : List (List ℕ)) → chains ≡ xs ++ (c ∷ ys) → (List·Memᴰ c xs → ⊥) × (List·Memᴰ c ys → ⊥)
-    pub session : (b : List ℕ) → n ≤ length b → (c : List ℕ) × (l : List (List ℕ)) × (chains ≡ c ∷ l) × (first D r a b ≡ leave Chain (c ++ drop n b)) × Yields r a (drop n b) c l
-    pub after : (xs : List (List ℕ)) (c y : List ℕ) (ys : List (List ℕ)) (x : List ℕ) → chains ≡ xs ++ (c ∷ (y ∷ ys)) → next D r a (c ++ x) ≡ leave Chain (y ++ x)
-    pub last : (xs : List (List ℕ)) (c x : List ℕ) → chains ≡ xs ++ (c ∷ []) → next D r a (c ++ x) ≡ leave End (c ++ x)
+    pub all : (c : List ℕ) → List·Memᴰ c (listing D n) ↔ Listed N C (D .from) (D .to) c
+    pub rises : Rises (listing D n)
+    pub once : (xs : List (List ℕ)) (c : List ℕ) (ys : List (List ℕ)) → listing D n ≡ xs ++ (c ∷ ys) → (List·Memᴰ c xs → ⊥) × (List·Memᴰ c ys → ⊥)
+    pub session : (b : List ℕ) → n ≤ length b → (c : List ℕ) × (l : List (List ℕ)) × (listing D n ≡ c ∷ l) × (first D r a b ≡ leave Chain (c ++ drop n b)) × Yields r a (drop n b) c l
+    pub after : (xs : List (List ℕ)) (c y : List ℕ) (ys : List (List ℕ)) (x : List ℕ) → listing D n ≡ xs ++ (c ∷ (y ∷ ys)) → next D r a (c ++ x) ≡ leave Chain (y ++ x)
+    pub last : (xs : List (List ℕ)) (c x : List ℕ) → listing D n ≡ xs ++ (c ∷ []) → next D r a (c ++ x) ≡ leave End (c ++ x)
 
   abbrev pub Demand3 : List ℕ → Type 0
   Demand3 w = (n m d : ℕ) (a : List ℕ) → Made D w n m (Found d) a → Lists m a d
