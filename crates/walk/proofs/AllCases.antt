@@ -58,7 +58,7 @@ pub record Claims : Type 0 where
   pub refused : K.next N 2 after2 (buf 0 4) .answer ≡ K.refused 11 0
 
 pub claims : Claims
-unfolding starred own run play ways waysFrom sumBelow has _and_ anyBelow least table onlyBelow setBelow tally same usable starts accepts follows A.leads A.reach A.word A.area A.front A.nearest A.status C.before C.joined C.rows C.sieve C.member C.firstOf C.afterOf C.joins C.along C.reached C.matches C.list Q.right Q.status Q.listing R.sizes R.badTie R.tieOrder R.badCondition R.badMove R.badEnds R.shortArea R.wrongArea R.unfinished R.shortChain R.notListed R.lent-tests R.start-tests R.round-tests R.first-tests R.next-tests K.judged K.prepared K.start K.round K.first K.next
+unfolding starred own run play ways waysFrom sumBelow has _and_ anyBelow least table onlyBelow setBelow tally same usable starts accepts follows A.leads A.reach A.word A.area A.pairsAt A.smallest A.status C.before C.joined C.rows C.sieve C.member C.firstOf C.afterOf C.joins C.along C.reached C.matches C.list Q.right Q.status Q.listing R.sizes R.badTie R.tieOrder R.badCondition R.badMove R.badEnds R.shortArea R.wrongArea R.unfinished R.shortChain R.notListed R.lent-tests R.start-tests R.round-tests R.first-tests R.next-tests K.judged K.prepared K.start K.round K.first K.next
 claims = record {
   starred-cases = refl;
   own-cases = refl;

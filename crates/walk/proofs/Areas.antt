@@ -13,7 +13,7 @@ use borrow.Author.Tests.{eqb-true}
 use Rattle.walk.specs.Numbers.{_and_, pick, table}
 use Rattle.walk.specs.Network.{Network}
 use Rattle.walk.specs.Condition.{Condition, starts}
-use Rattle.walk.specs.Area.{pairs, word, area, front}
+use Rattle.walk.specs.Area.{pairs, word, area, pairsAt}
 use Rattle.walk.proofs.Tests.{eqb-of, getD-table, length-table, table-ext, yes-same, tally-in, tally-of}
 use Rattle.walk.proofs.Executable.{Sound, arc-in}
 use Rattle.walk.proofs.Words.{unreached, Right, comes, comes-in, comes-of, word-zero, word-suc}
@@ -69,9 +69,9 @@ module _ (N : Network) (C : Condition) (s : ℕ) where
               getD-take (pairs N C) l i 0 b ∙ e ∙ sym (area-get r i b)
 
   -- the words equal to r are above 0 in number exactly where some pair has the word r
-  pub front-law : (r : ℕ) → (0 < front N C s r) ↔ ((u : ℕ) × (p : ℕ) × (u < N .marks) × (p < C .states) × (word N C s r u p ≡ r))
-  unfolding front
-  front-law r = (
+  pub pairsAt-law : (r : ℕ) → (0 < pairsAt N C s r) ↔ ((u : ℕ) × (p : ℕ) × (u < N .marks) × (p < C .states) × (word N C s r u p ≡ r))
+  unfolding pairsAt
+  pairsAt-law r = (
     λ h. let (i, l, e) = tally-in _ _ h in
         let b : i < pairs N C = rw (length-area r) at l in
         let (hu, hp) = pair-in (N .marks) (C .states) i b in

@@ -13,14 +13,14 @@ use native.Mathlib.Omega.{arith}
 use lib.Dec.{leb, ltb, eqb}
 use lib.ListN.{length, length-append}
 use borrow.Author.Tests.{eqb-true, ltb-true, lt-ltb}
-use Rattle.walk.specs.Numbers.{has, _and_, pick, anyBelow, least, setBelow, nonempty}
+use Rattle.walk.specs.Numbers.{has, _and_, pick, anyBelow, least, setBelow}
 use Rattle.walk.specs.Network.{Network, ties, fromOf, toOf}
 use Rattle.walk.specs.Condition.{Condition, accepts}
-use Rattle.walk.specs.Walk.{Joins, Matches, Shortest}
+use Rattle.walk.specs.Walk.{Joins, Matches, LeastMatching}
 use Rattle.walk.specs.Area.{leads, reach, word}
 use Rattle.walk.specs.Chains.{list}
 use Rattle.walk.proofs.Tests.{Yes, and-in, and-of, eqb-of, anyBelow-in, anyBelow-of}
-use Rattle.walk.proofs.Sets.{set-in, set-of, some-of, in-some, set-small}
+use Rattle.walk.proofs.Sets.{nonempty, set-in, set-of, some-of, in-some, set-small}
 use Rattle.walk.proofs.Executable.{Sound, Arc, Runs, runs-nil, runs-cons, leads-states, reach-law, reach-suc, suc-reach, joins-split, joins-join, runs-split, runs-join}
 use Rattle.walk.proofs.Words.{unreached, word-is}
 use Rattle.walk.proofs.Listings.{list-law}
@@ -150,7 +150,7 @@ module _ (N : Network) (C : Condition) (s t r : ℕ) where
         let z : word N C s r v p ≡ i = omega arith in
         (a .tie, a .tie-in, a .arrives, some-of _ p (back-of (a .tie) i S p q (rw (a .leaves) z) (a .steps) h))
 
-    module _ (n : ℕ) (few : r < unreached) (fits : n ≤ r) (short : Shortest N C s t n) where
+    module _ (n : ℕ) (few : r < unreached) (fits : n ≤ r) (short : LeastMatching N C s t n) where
       pub joins-mark : (v : ℕ) (d : List ℕ) → Joins N v d t → mark n d ≡ v
       joins-mark v [] j = sym j
       joins-mark v (e ∷ d) j = j .1

@@ -9,12 +9,12 @@ use Rattle.walk.specs.declared.Status.{Status}
 use Rattle.walk.specs.declared.Status.the-variants.{Found, None, Going}
 use Rattle.walk.specs.Network.{Network, usable}
 use Rattle.walk.specs.Condition.{Condition}
-use Rattle.walk.specs.Walk.{Nearest}
+use Rattle.walk.specs.Walk.{LeastReaching}
 use Rattle.walk.specs.Question.{Question, status}
 use Rattle.walk.specs.Demands.{Made, NoPair, Greatest, Counted, CountRule}
 use Rattle.walk.proofs.Executable.{Sound}
 use Rattle.walk.proofs.Words.{unreached}
-use Rattle.walk.proofs.Areas.{front-law}
+use Rattle.walk.proofs.Areas.{pairsAt-law}
 use Rattle.walk.proofs.Lengths.{Dist, dist-law, word-dist, dist-word, level}
 use Rattle.walk.proofs.Statuses.{shortest-law, going-is, none-is}
 use Rattle.walk.proofs.Refusals.{Ready, ready}
@@ -61,13 +61,13 @@ module _ (D : Question) where
             omega arith
 
         -- no pair has a least length of n or more
-        short : (k : ℕ) → n ≡ k → S ≡ None → (v q e : ℕ) → v < N .marks → q < C .states → Nearest N C s v q e → e < k
+        short : (k : ℕ) → n ≡ k → S ≡ None → (v q e : ℕ) → v < N .marks → q < C .states → LeastReaching N C s v q e → e < k
         short k z f v q e hv hq x =
             let E = dist-law N C s ok e v q .1 x in
             let none-left = none-is N C s t ok (R .to-in) n few (sym (H .is) ∙ f) .0 in
             let not-more : ¬ (n ≤ e) =
             λ l. (let (u, p, hu, hp, F) = level N C s ok (e - n) n v q (subst (λ (i : ℕ). Dist N C s i v q) (omega arith) E) hv hq in
-            let y = front-law N C s n .1 (u, p, hu, hp, dist-word N C s n n u p few F (omega arith)) in
+            let y = pairsAt-law N C s n .1 (u, p, hu, hp, dist-word N C s n n u p few F (omega arith)) in
             omega arith) in
             omega arith
 
@@ -76,7 +76,7 @@ module _ (D : Question) where
         none (suc i) z g e =
             let few′ : i < unreached = omega (arith, few, z) in
             let (f, _) = going-is N C s t ok (R .to-in) i few′ (g i z) in
-            let (u, p, hu, hp, x) = front-law N C s i .0 f in
+            let (u, p, hu, hp, x) = pairsAt-law N C s i .0 f in
             inr (i, H .count ∙ z, record { met = (u, p, hu, hp, dist-law N C s ok i u p .0 (word-dist N C s i i u p few′ x (omega arith))); most = λ v q d hv hq y. (let l = short (suc i) z e v q d hv hq y in omega arith) })
 
     pub count-rule : CountRule D w

@@ -12,10 +12,10 @@ use Rattle.walk.specs.declared.Status.{Status}
 use Rattle.walk.specs.declared.Status.the-variants.{Found, None, Going}
 use Rattle.walk.specs.Network.{Network, usable}
 use Rattle.walk.specs.Condition.{Condition}
-use Rattle.walk.specs.Walk.{LeastLength, Shortest}
+use Rattle.walk.specs.Walk.{LeastLength, LeastMatching}
 use Rattle.walk.specs.Area as Area
 use Rattle.walk.specs.Question.{Question, pairs, right, status}
-use Rattle.walk.specs.Demands.{Made, begun, Finished, RightWord, NoMatch, Prepared, Demand2}
+use Rattle.walk.specs.Demands.{Made, begun, Finished, RightWord, NoMatch, RightAfter, Demand2}
 use Rattle.walk.proofs.Executable.{Sound}
 use Rattle.walk.proofs.Words.{unreached, word-is}
 use Rattle.walk.proofs.Areas.{area-at, place-in}
@@ -63,7 +63,7 @@ module _ (D : Question) where
       apart e d E = let z : ¬ (d ≤ n) = λ l. (let y = dist-word N C s n d v q few E l in omega arith) in omega arith
 
   -- what the status after n rounds says of matching chains
-  pub found-short : Ready D → (n d : ℕ) → n < unreached → status D n ≡ Found d → (d ≤ n) × Shortest N C s t d
+  pub found-short : Ready D → (n d : ℕ) → n < unreached → status D n ≡ Found d → (d ≤ n) × LeastMatching N C s t d
   unfolding status
   found-short R n d few e = let (h, F) = found-is N C s t (R .sound) (R .to-in) n few d e in (h, shortest-law N C s t (R .sound) d .0 F)
 
@@ -85,7 +85,7 @@ module _ (D : Question) where
         (λ f. (n, m, S, a, M, f))
         (going-or-finished S)
 
-    prepared-right : {n m : ℕ} {S : Status} {a : List ℕ} → Made D w n m S a → Prepared D w n S a
+    prepared-right : {n m : ℕ} {S : Status} {a : List ℕ} → Made D w n m S a → RightAfter D w n S a
     unfolding right usable
     prepared-right {n} {m} {S} {a} M = record {
       words = λ v q hv hq. subst (λ (x : ℕ). RightWord D n v q x) (sym (at-pair v q hv hq)) (word-right R n v q few);
@@ -115,7 +115,7 @@ module _ (D : Question) where
         not-found f None e x = e
         not-found f Going e x = absurd (f e)
 
-        is-found : Finished S → (T : Status) → S ≡ T → (d : ℕ) → Shortest N C s t d → S ≡ Found d
+        is-found : Finished S → (T : Status) → S ≡ T → (d : ℕ) → LeastMatching N C s t d → S ≡ Found d
         is-found f (Found i) e d L = e ∙ ap Found (least-same (found-short R n i few (sym (H .is) ∙ e) .1) L)
         is-found f None e d L = let (c, _, (j, x)) = L .met in absurd (none-match R n few (sym (H .is) ∙ e) c j x)
         is-found f Going e d L = absurd (f e)

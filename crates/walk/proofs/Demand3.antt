@@ -15,7 +15,7 @@ use Rattle.walk.specs.declared.Status.{Status}
 use Rattle.walk.specs.declared.Status.the-variants.{Found}
 use Rattle.walk.specs.Network.{Network, usable}
 use Rattle.walk.specs.Condition.{Condition}
-use Rattle.walk.specs.Walk.{Shortest, Listed}
+use Rattle.walk.specs.Walk.{LeastMatching, Listed}
 use Rattle.walk.specs.Chains.{firstOf, afterOf}
 use Rattle.walk.specs.Question.{Question, status, listing}
 use Rattle.walk.specs.Refusals.{unfinished, shortChain, notListed, round-tests, first-tests, next-tests}
@@ -38,7 +38,7 @@ module _ (D : Question) (r : ℕ) (a : List ℕ) where
     R : Ready D
     R = ready D (start-passes D a .0 (round-passes D r a .0 passes .0) .0)
 
-    short : Shortest N C (D .from) (D .to) n
+    short : LeastMatching N C (D .from) (D .to) n
     short =
         let (_, (h, _)) = round-passes D r a .0 passes in
         let f = R .few in

@@ -7,7 +7,7 @@ use mathlib.Core.Logic.{_↔_}
 use native.Mathlib.Nat.{add-suc, suc-add, add-zero, zero-add}
 use lib.ListN.{length}
 use borrow.Author.Tests.{eqb-true, ltb-true, lt-ltb}
-use Rattle.walk.specs.Numbers.{has}
+use Rattle.walk.specs.Numbers.{has, setBelow}
 use Rattle.walk.specs.Network.{Network, ties, fromOf, toOf, kindsOf}
 use Rattle.walk.specs.Condition.{Condition, starts, accepts, follows}
 use Rattle.walk.specs.Walk.{Joins, Label, Spells, Reaches, Matches}
@@ -90,14 +90,22 @@ module _ (N : Network) (C : Condition) where
           λ (p, h, x). let (o, l, y) = runs-cons p e c q .0 x in ih .1 (o, along-of S e p o h l, y),
         )
 
+    -- the chain c reaches q
+    reaches-law : (c : List ℕ) (q : ℕ) → Yes (has (reached N C (setBelow (C .states) (starts C)) c) q) ↔ Reaches N C c q
+    reaches-law c q =
+        let L = reached-law (setBelow (C .states) (starts C)) c q in (
+          λ h. let (p, a, x) = L .0 h in (p, set-in _ _ p a .1, x),
+          λ (p, a, x). L .1 (p, set-of _ _ p (ok .start-in p a) a, x),
+        )
+
     pub matches-law : (s t : ℕ) (c : List ℕ) → Yes (matches N C s t c) ↔ (Joins N s c t × Matches N C c)
-    unfolding matches starts
+    unfolding matches
     matches-law s t c = (
       λ h. let (a, x) = and-in _ _ h in
           let (q, _, y) = anyBelow-in _ _ x in
           let (b, z) = and-in _ _ y in
-          (joins-law s c t .0 a, (q, b, reached-law (C .start) c q .0 z)),
-      λ (j, (q, b, r)). and-of (joins-law s c t .1 j) (anyBelow-of _ _ q (ok .accept-in q b) (and-of b (reached-law (C .start) c q .1 r))),
+          (joins-law s c t .0 a, (q, b, reaches-law c q .0 z)),
+      λ (j, (q, b, r)). and-of (joins-law s c t .1 j) (anyBelow-of _ _ q (ok .accept-in q b) (and-of b (reaches-law c q .1 r))),
     )
 
     pub arc-in : (u p v q : ℕ) → Arc u p v q → (u < N .marks) × (p < C .states) × (v < N .marks) × (q < C .states)

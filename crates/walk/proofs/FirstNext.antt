@@ -13,12 +13,13 @@ use lib.Dec.{leb, ltb}
 use lib.ListN.{length, length-append, take, drop, getD}
 use lib.Seq.{split-at, length-take-le}
 use borrow.Author.Tests.{eqb-true, ltb-true, ltb-false, leb-true, le-leb}
-use Rattle.walk.specs.Numbers.{_and_, pick, nonempty}
+use Rattle.walk.specs.Numbers.{_and_, pick}
 use Rattle.walk.specs.Network.{Network, ties, toOf}
 use Rattle.walk.specs.Condition.{Condition}
-use Rattle.walk.specs.Walk.{Joins, Matches, Shortest}
+use Rattle.walk.specs.Walk.{Joins, Matches, LeastMatching}
 use Rattle.walk.specs.Chains.{before, list, firstOf, afterOf}
 use Rattle.walk.proofs.Tests.{Yes, and-in, and-of, eqb-of, least-is}
+use Rattle.walk.proofs.Sets.{nonempty}
 use Rattle.walk.proofs.Executable.{Sound, joins-split}
 use Rattle.walk.proofs.Words.{unreached}
 use Rattle.walk.proofs.Order.{first-is, next-is, next-none, before-irrefl, before-asym, before-at, before-split, before-cons, squeeze}
@@ -34,7 +35,7 @@ last-of (x ∷ (y ∷ c)) (suc n) e =
     let (b, z, f, l) = last-of (y ∷ c) n (omega arith) in
     (x ∷ b, z, ap {B = List ℕ} (λ k. x ∷ k) f, ap suc l)
 
-module _ (N : Network) (C : Condition) (s t r : ℕ) (ok : Sound N C) (n : ℕ) (few : r < unreached) (fits : n ≤ r) (short : Shortest N C s t n) where
+module _ (N : Network) (C : Condition) (s t r : ℕ) (ok : Sound N C) (n : ℕ) (few : r < unreached) (fits : n ≤ r) (short : LeastMatching N C s t n) where
   abbrev alive : ℕ → List ℕ → ℕ
   alive i d = setAt N (back N C s t r) t (atEnd N C s t r n) i d
 

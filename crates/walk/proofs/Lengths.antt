@@ -12,12 +12,12 @@ use borrow.Author.Tests.{eqb-true, eqb-false}
 use Rattle.walk.specs.Numbers.{pick}
 use Rattle.walk.specs.Network.{Network}
 use Rattle.walk.specs.Condition.{Condition}
-use Rattle.walk.specs.Walk.{Nearest}
-use Rattle.walk.specs.Area.{pairs, reach, word, area, front}
+use Rattle.walk.specs.Walk.{LeastReaching}
+use Rattle.walk.specs.Area.{pairs, reach, word, area, pairsAt}
 use Rattle.walk.proofs.Tests.{FirstAt, first-one, table-ext}
 use Rattle.walk.proofs.Executable.{Sound, Arc, arc-in, reach-law, reach-suc, suc-reach}
 use Rattle.walk.proofs.Words.{unreached, Word, word-is, one-word}
-use Rattle.walk.proofs.Areas.{place-in, mark-of, state-of, pair-in, front-law}
+use Rattle.walk.proofs.Areas.{place-in, mark-of, state-of, pair-in, pairsAt-law}
 
 -- n numbers below m that differ are at most m
 pigeon : (m n : ℕ) (f : ℕ → ℕ) → ((i : ℕ) → i < n → f i < m) → ((i j : ℕ) → i < j → j < n → f i ≡ f j → ⊥) → n ≤ m
@@ -65,7 +65,7 @@ module _ (N : Network) (C : Condition) (s : ℕ) where
 
   module _ (ok : Sound N C) where
     -- in the paper's words
-    pub dist-law : (d v q : ℕ) → Dist d v q ↔ Nearest N C s v q d
+    pub dist-law : (d v q : ℕ) → Dist d v q ↔ LeastReaching N C s v q d
     dist-law d v q = (
       λ D. record { met = reach-law N C ok s d v q .0 (D .met); least = λ c x. let n : ¬ (length c < d) = λ l. D .least (length c) l (reach-law N C ok s (length c) v q .1 (c, refl, x)) in omega arith },
       λ M. record { met = reach-law N C ok s d v q .1 (M .met); least = λ m l t. let (c, e, x) = reach-law N C ok s m v q .0 t in let y = M .least c x in omega arith },
@@ -107,11 +107,11 @@ module _ (N : Network) (C : Condition) (s : ℕ) where
             omega arith
 
     -- 01: "65,535 marks an unreached pair in the area and stands nowhere else"
-    pub never-unreached : (d v q : ℕ) → pairs N C ≤ unreached → Nearest N C s v q d → v < N .marks → q < C .states → d < unreached
+    pub never-unreached : (d v q : ℕ) → pairs N C ≤ unreached → LeastReaching N C s v q d → v < N .marks → q < C .states → d < unreached
     never-unreached d v q few M hv hq = let b = dist-bound d v q (dist-law d v q .1 M) hv hq in omega arith
 
     -- once no word is r, the words stay for every later round
-    stays : (r m v q : ℕ) → r ≤ m → m < unreached → (0 < front N C s r → ⊥) → v < N .marks → q < C .states → word N C s m v q ≡ word N C s r v q
+    stays : (r m v q : ℕ) → r ≤ m → m < unreached → (0 < pairsAt N C s r → ⊥) → v < N .marks → q < C .states → word N C s m v q ≡ word N C s r v q
     stays r m v q h few none hv hq = one-word N C s r v q _ _ (omega arith) (record { small = small; met = λ k. M .met (omega arith); least = λ n k t. M .least n (omega arith) t }) (word-is N C s r v q (omega arith))
       where
         M : Word N C s m v q (word N C s m v q)
@@ -122,11 +122,11 @@ module _ (N : Network) (C : Condition) (s : ℕ) where
         no-more a b =
             let D = word-dist m (word N C s m v q) v q few refl b in
             let (u, p, hu, hp, E) = level (word N C s m v q - r) r v q (subst (λ (k : ℕ). Dist k v q) (omega arith) D) hv hq in
-            none (front-law N C s r .1 (u, p, hu, hp, dist-word r r u p (omega arith) E (omega arith)))
+            none (pairsAt-law N C s r .1 (u, p, hu, hp, dist-word r r u p (omega arith) E (omega arith)))
 
         small : (word N C s m v q ≤ r) ⊎ (word N C s m v q ≡ unreached)
         small = ⊎-elim (λ b. let x : ¬ (r ≤ word N C s m v q) = λ a. no-more a b in inl (omega arith)) (λ b. inr b) (M .small)
 
-    pub area-stays : (r m : ℕ) → r ≤ m → m < unreached → (0 < front N C s r → ⊥) → area N C s m ≡ area N C s r
+    pub area-stays : (r m : ℕ) → r ≤ m → m < unreached → (0 < pairsAt N C s r → ⊥) → area N C s m ≡ area N C s r
     unfolding area
     area-stays r m h few none = table-ext _ _ _ (λ i l. let (hv, hq) = pair-in (N .marks) (C .states) i l in stays r m (i / C .states) (i % C .states) h few none hv hq)

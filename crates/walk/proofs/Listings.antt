@@ -8,7 +8,7 @@ use native.Mathlib.Omega.{arith}
 use lib.ListN.{length}
 use Rattle.walk.specs.Network.{Network, ties, toOf}
 use Rattle.walk.specs.Condition.{Condition}
-use Rattle.walk.specs.Walk.{Joins, Matches, Shortest, Listed}
+use Rattle.walk.specs.Walk.{Joins, Matches, LeastMatching, Listed}
 use Rattle.walk.specs.Chains.{rows, matches, list}
 use Rattle.walk.specs.Demands.{Rises}
 use Rattle.walk.proofs.Executable.{Sound, matches-law}
@@ -34,9 +34,9 @@ module _ (N : Network) (C : Condition) (s t n : ℕ) where
     )
 
     -- at the least length the list holds exactly the listed chains (000, definition 8)
-    pub listed-law : Shortest N C s t n → (c : List ℕ) → List·Memᴰ c (list N C s t n) ↔ Listed N C s t c
+    pub listed-law : LeastMatching N C s t n → (c : List ℕ) → List·Memᴰ c (list N C s t n) ↔ Listed N C s t c
     listed-law S c = (
-      λ m. let (l, j, x) = list-law c .0 m in record { joins = j; matches = x; shortest = subst (λ (k : ℕ). Shortest N C s t k) (sym l) S },
+      λ m. let (l, j, x) = list-law c .0 m in record { joins = j; matches = x; shortest = subst (λ (k : ℕ). LeastMatching N C s t k) (sym l) S },
       λ L. let (d, l, (j, x)) = S .met in
           let a = L .shortest .least d (j, x) in
           let b = S .least c (L .joins, L .matches) in

@@ -6,11 +6,11 @@ use mathlib.Core.Logic.{_↔_}
 use native.Mathlib.Omega.{arith}
 use Rattle.walk.specs.declared.Status.the-variants.{Found, None, Going}
 use Rattle.walk.specs.Network.{usable}
-use Rattle.walk.specs.Walk.{Shortest, Listed}
+use Rattle.walk.specs.Walk.{LeastMatching, Listed}
 use Rattle.walk.specs.Refusals.{Row, number, next-tests}
 use Rattle.walk.specs.Sessions.{ways}
 use Rattle.walk.specs.Cases.{netN, setsN, condN, N, blank, after2, lone, lone0, buf}
-use Rattle.walk.specs.Demands.{FirstGiven, Made, begun, again, NoMatch, Prepared, Counted, Lists}
+use Rattle.walk.specs.Demands.{FirstGiven, Made, begun, again, NoMatch, RightAfter, Counted, Lists}
 use Rattle.walk.proofs.AllCases.{claims}
 use Rattle.walk.proofs.Demand1.{demand-1}
 use Rattle.walk.proofs.Demand2.{demand-2}
@@ -29,10 +29,10 @@ pub refused-11 : (x : Row) × FirstGiven (next-tests N 2 after2 (buf 0 4)) x × 
 refused-11 = demand-1 N 2 after2 (buf 0 4) .of-next .exactly 11 0 .0 (claims .refused)
 
 -- demand 2: the area of two rounds is right, so the least length from 0 to mark 3 and state 1 is 2; and the least length of a match is 2
-prepared : Prepared N blank 2 (Found 2) after2
+prepared : RightAfter N blank 2 (Found 2) after2
 prepared = demand-2 N blank .right 2 2 (Found 2) after2 made
 
-pub least-length : Shortest (usable (netN setsN)) (condN 1) 0 3 2
+pub least-length : LeastMatching (usable (netN setsN)) (condN 1) 0 3 2
 least-length = prepared .found finished 2 .0 refl
 
 pub counted : Counted N 2 2 (Found 2)

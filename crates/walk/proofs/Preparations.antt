@@ -17,7 +17,7 @@ use Rattle.walk.specs.Refusals.{Row, number, lent-tests, start-tests, ro
 use Rattle.walk.specs.Calls.{refused, gives, Progress, Done, leave, judged, prepared, stepped, start, round}
 use Rattle.walk.specs.Demands.{NoneGiven, Made, begun, again}
 use Rattle.walk.proofs.Words.{unreached}
-use Rattle.walk.proofs.Areas.{length-area, front-law}
+use Rattle.walk.proofs.Areas.{length-area, pairsAt-law}
 use Rattle.walk.proofs.Lengths.{dist-bound, word-dist}
 use Rattle.walk.proofs.Statuses.{going-is}
 use Rattle.walk.proofs.Refusals.{first-or-none, judged-none, judged-first, Ready, ready, start-passes, round-passes}
@@ -55,7 +55,7 @@ module _ (D : Question) where
       let f = R .few in
       let few : n < unreached = omega arith in
       let (g, _) = going-is N C s t (R .sound) (R .to-in) n few e in
-      let (u, p, hu, hp, x) = front-law N C s n .0 g in
+      let (u, p, hu, hp, x) = pairsAt-law N C s n .0 g in
       dist-bound N C s (R .sound) n u p (word-dist N C s n n u p few x (omega arith)) hu hp
 
   module _ (w : List ℕ) where

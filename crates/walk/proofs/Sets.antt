@@ -10,8 +10,12 @@ use lib.Dec.{lit<, eqb, ltb}
 use lib.Pow.{pow-pos, pow-lt, pow-mono, pow-add, shl-shr, shr-shr}
 use lib.Bits.{bitOr, or-lt, or-shr, or-step, shifted-even}
 use borrow.Author.Tests.{eqb-true, eqb-false, ltb-true, ltb-false}
-use Rattle.walk.specs.Numbers.{has, pick, setBelow, nonempty}
+use Rattle.walk.specs.Numbers.{has, pick, setBelow}
 use Rattle.walk.proofs.Tests.{Yes, eqb-of}
+
+-- the set is not empty
+unfoldable pub nonempty : ℕ → Bool
+nonempty s = not (eqb s 0)
 
 or-digit : (a b j : ℕ) → bitOr a b / 2 ^ j % 2 ≡ max (a / 2 ^ j % 2) (b / 2 ^ j % 2)
 or-digit a b j =

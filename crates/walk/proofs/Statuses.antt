@@ -14,12 +14,12 @@ use Rattle.walk.specs.declared.Status.the-variants.{Found, None, Going}
 use Rattle.walk.specs.Numbers.{_and_, pick, anyBelow}
 use Rattle.walk.specs.Network.{Network}
 use Rattle.walk.specs.Condition.{Condition, accepts}
-use Rattle.walk.specs.Walk.{Joins, Matches, Shortest}
-use Rattle.walk.specs.Area.{pairs, reach, word, front, nearest, status}
+use Rattle.walk.specs.Walk.{Joins, Matches, LeastMatching}
+use Rattle.walk.specs.Area.{pairs, reach, word, pairsAt, smallest, status}
 use Rattle.walk.proofs.Tests.{Yes, and-in, and-of, eqb-of, anyBelow-in, anyBelow-of, Least, least-is, FirstAt, first-below}
 use Rattle.walk.proofs.Executable.{Sound, reach-law}
 use Rattle.walk.proofs.Words.{unreached, word-is}
-use Rattle.walk.proofs.Areas.{front-law}
+use Rattle.walk.proofs.Areas.{pairsAt-law}
 use Rattle.walk.proofs.Lengths.{Dist, dist-bound, word-dist, dist-word, level}
 
 -- the two tests that decide a status: b is at most r, and n is above 0
@@ -56,14 +56,14 @@ module _ (N : Network) (C : Condition) (s t : ℕ) (ok : Sound N C) where
   )
 
   -- the least length that is matched is the paper's
-  pub shortest-law : (d : ℕ) → FirstAt matched d ↔ Shortest N C s t d
+  pub shortest-law : (d : ℕ) → FirstAt matched d ↔ LeastMatching N C s t d
   shortest-law d = (
     λ F. record { met = matched-law d .0 (F .met); least = λ c x. let n : ¬ (length c < d) = λ l. F .least (length c) l (matched-law (length c) .1 (c, refl, x)) in omega arith },
     λ S. record { met = matched-law d .1 (S .met); least = λ m l h. let (c, k, x) = matched-law m .0 h in let y = S .least c x in omega arith },
   )
 
   -- 01: "A least length is at most V×Q - 1"
-  pub shortest-bound : (d : ℕ) → t < N .marks → Shortest N C s t d → d < pairs N C
+  pub shortest-bound : (d : ℕ) → t < N .marks → LeastMatching N C s t d → d < pairs N C
   shortest-bound d t-in S =
       let F = shortest-law d .1 S in
       let (q, a, h) = matched-in d (F .met) in
@@ -82,38 +82,38 @@ module _ (N : Network) (C : Condition) (s t : ℕ) (ok : Sound N C) where
     unfolding asked
     asked-of q a = anyBelow-of _ _ q (ok .accept-in q a) (and-of a (eqb-of {m = word N C s r t q} refl))
 
-    nearest-is : Least asked (suc r) (nearest N C s t r)
-    unfolding nearest asked
-    nearest-is = least-is asked (suc r)
+    smallest-is : Least asked (suc r) (smallest N C s t r)
+    unfolding smallest asked
+    smallest-is = least-is asked (suc r)
 
     -- a matched length of at most r is asked for, itself or a smaller one
-    not-nearer : (m : ℕ) → m ≤ r → Yes (matched m) → m < nearest N C s t r → ⊥
+    not-nearer : (m : ℕ) → m ≤ r → Yes (matched m) → m < smallest N C s t r → ⊥
     not-nearer m l h k =
         let (q, a, x) = matched-in m h in
         let y = word-is N C s r t q few .least m l x in
-        nearest-is .none-before (word N C s r t q) (omega arith) (asked-of q a)
+        smallest-is .none-before (word N C s r t q) (omega arith) (asked-of q a)
 
-    status-is : Decided (nearest N C s t r) r (front N C s r) (status N C s t r)
+    status-is : Decided (smallest N C s t r) r (pairsAt N C s r) (status N C s t r)
     unfolding status
-    status-is = decided (nearest N C s t r) r (front N C s r)
+    status-is = decided (smallest N C s t r) r (pairsAt N C s r)
 
     pub found-is : (d : ℕ) → status N C s t r ≡ Found d → (d ≤ r) × FirstAt matched d
     found-is d e =
         let (h, f) = status-is .found d e in
-        let L : Least asked (suc r) d = subst (λ (x : ℕ). Least asked (suc r) x) f nearest-is in
+        let L : Least asked (suc r) d = subst (λ (x : ℕ). Least asked (suc r) x) f smallest-is in
         let (q, a, w) = asked-in d (L .passes (omega arith)) in
         let D = word-dist N C s r d t q few w (omega arith) in
         (omega arith, record { met = matched-of d q a (D .met); least = λ m l x. not-nearer m (omega arith) x (omega arith) })
 
-    pub going-is : status N C s t r ≡ Going → (0 < front N C s r) × ((m : ℕ) → m ≤ r → Yes (matched m) → ⊥)
+    pub going-is : status N C s t r ≡ Going → (0 < pairsAt N C s r) × ((m : ℕ) → m ≤ r → Yes (matched m) → ⊥)
     going-is e = let (h, f) = status-is .going e in (f, λ m l x. not-nearer m l x (omega arith))
 
-    pub none-is : status N C s t r ≡ None → (front N C s r ≡ 0) × ((m : ℕ) → Yes (matched m) → ⊥)
+    pub none-is : status N C s t r ≡ None → (pairsAt N C s r ≡ 0) × ((m : ℕ) → Yes (matched m) → ⊥)
     none-is e =
         let (h, f) = status-is .none e in
         (f, λ m x. let (q, a, y) = matched-in m x in let (d, _, D) = first-below (λ n. reach N C s n t q) m y in none-left h f d q a D)
       where
-        none-left : r < nearest N C s t r → front N C s r ≡ 0 → (d q : ℕ) → Yes (accepts C q) → Dist N C s d t q → ⊥
+        none-left : r < smallest N C s t r → pairsAt N C s r ≡ 0 → (d q : ℕ) → Yes (accepts C q) → Dist N C s d t q → ⊥
         none-left h f d q a D = go (leb d r) refl
           where
             go : (b : Bool) → leb d r ≡ b → ⊥
@@ -121,5 +121,5 @@ module _ (N : Network) (C : Condition) (s t : ℕ) (ok : Sound N C) where
             go false e =
                 let l = leb-false d r e in
                 let (u, p, hu, hp, E) = level N C s ok (d - r) r t q (subst (λ (k : ℕ). Dist N C s k t q) (omega arith) D) t-in (ok .accept-in q a) in
-                let z = front-law N C s r .1 (u, p, hu, hp, dist-word N C s r r u p few E (omega arith)) in
+                let z = pairsAt-law N C s r .1 (u, p, hu, hp, dist-word N C s r r u p few E (omega arith)) in
                 omega arith

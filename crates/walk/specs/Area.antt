@@ -34,15 +34,15 @@ module _ (N : Network) (C : Condition) where
     area r = table pairs (λ i. word r (i / C .states) (i % C .states))
 
     -- the number of pairs whose word is r
-    unfoldable pub front : ℕ → ℕ
-    front r = tally (eqb r) (area r)
+    unfoldable pub pairsAt : ℕ → ℕ
+    pairsAt r = tally (eqb r) (area r)
 
     module _ (t : ℕ) where
       -- the smallest word at t of an accepting state, or one more than r if none is at most r
-      unfoldable pub nearest : ℕ → ℕ
-      nearest r = least (λ n. anyBelow (C .states) (λ q. accepts C q and eqb (word r t q) n)) (suc r)
+      unfoldable pub smallest : ℕ → ℕ
+      smallest r = least (λ n. anyBelow (C .states) (λ q. accepts C q and eqb (word r t q) n)) (suc r)
 
       -- 01: "Found, with the least length: an accepting state at t has been reached. The length is the smallest such word at t. None:
       -- not Found, and no word equals the rounds done. Going: neither."
       unfoldable pub status : ℕ → Status
-      status r = pick (leb (nearest r) r) (Found (nearest r)) (pick (ltb 0 (front r)) Going None)
+      status r = pick (leb (smallest r) r) (Found (smallest r)) (pick (ltb 0 (pairsAt r)) Going None)

@@ -6,7 +6,7 @@ use mathlib.Core.Option.{Option, none, some}
 use lib.Dec.{ltb, eqb}
 use Rattle.walk.specs.Numbers.{has, _and_, pick, anyBelow, table, setBelow, same}
 use Rattle.walk.specs.Network.{Network, ties, fromOf, toOf}
-use Rattle.walk.specs.Condition.{Condition, accepts}
+use Rattle.walk.specs.Condition.{Condition, starts, accepts}
 use Rattle.walk.specs.Area.{leads}
 
 -- 01: "of two chains of equal length, look at the last place where they differ; the smaller tie number there comes first": c comes
@@ -16,7 +16,7 @@ before [] d = false
 before (x ∷ xs) [] = false
 before (x ∷ xs) (y ∷ ys) = before xs ys || (same xs ys and ltb x y)
 
--- all rows of n numbers below b in the order: behind each first number each shorter row, the first number varying fastest
+-- all rows of n numbers below b in the order: each first number before each shorter row, the first number varying fastest
 unfoldable pub joined : List (List (List ℕ)) → List (List ℕ)
 joined [] = []
 joined (x ∷ xs) = x ++ joined xs
@@ -57,9 +57,9 @@ module _ (N : Network) (C : Condition) where
   reached S [] = S
   reached S (e ∷ c) = reached (along S e) c
 
-  -- the chain c joins s to t and matches
+  -- the chain c joins s to t and matches: the start states carried along it hold an accepting one
   unfoldable pub matches : ℕ → ℕ → List ℕ → Bool
-  matches s t c = joins s c t and anyBelow (C .states) (λ q. accepts C q and has (reached (C .start) c) q)
+  matches s t c = joins s c t and anyBelow (C .states) (λ q. accepts C q and has (reached (setBelow (C .states) (starts C)) c) q)
 
   -- all matching chains of length n from s to t, in the order
   unfoldable pub list : ℕ → ℕ → ℕ → List (List ℕ)

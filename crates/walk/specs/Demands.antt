@@ -10,7 +10,7 @@ use Rattle.walk.specs.declared.Status.the-variants.{Found, None, Going}
 use Rattle.walk.specs.Ceilings.{ceilings}
 use Rattle.walk.specs.Network.{Network, usable}
 use Rattle.walk.specs.Condition.{Condition}
-use Rattle.walk.specs.Walk.{Joins, Matches, Nearest, Shortest, Listed}
+use Rattle.walk.specs.Walk.{Joins, Matches, LeastReaching, LeastMatching, Listed}
 use Rattle.walk.specs.Chains.{before}
 use Rattle.walk.specs.Question.{Question, pairs, listing}
 use Rattle.walk.specs.Refusals.{Row, number, start-tests, round-tests, first-tests, next-tests}
@@ -65,32 +65,32 @@ module _ (D : Question) where
   -- the mark for unreached. Carried to its finish, preparation says "none" exactly when no chain from the one mark to the other meets the
   -- condition as the walk paper defines it, and otherwise gives the least length."
   abbrev pub RightWord : ℕ → ℕ → ℕ → ℕ → Type 0
-  RightWord n v q x = ((x ≤ n) × Nearest N C (D .from) v q x) ⊎ ((x ≡ ceilings .unreached) × ((d : ℕ) → Nearest N C (D .from) v q d → n < d))
+  RightWord n v q x = ((x ≤ n) × LeastReaching N C (D .from) v q x) ⊎ ((x ≡ ceilings .unreached) × ((d : ℕ) → LeastReaching N C (D .from) v q d → n < d))
 
   abbrev pub NoMatch : Type 0
   NoMatch = (c : List ℕ) → Joins N (D .from) c (D .to) → Matches N C c → ⊥
 
-  pub record Prepared (w : List ℕ) (n : ℕ) (S : Status) (a : List ℕ) : Type 0 where
+  pub record RightAfter (w : List ℕ) (n : ℕ) (S : Status) (a : List ℕ) : Type 0 where
     pub words : (v q : ℕ) → v < N .marks → q < C .states → RightWord n v q (getD a (v * C .states + q) 0)
     pub rest : drop (pairs D) a ≡ drop (pairs D) w
     pub long : length a ≡ length w
     pub none : Finished S → (S ≡ None) ↔ NoMatch
-    pub found : Finished S → (d : ℕ) → (S ≡ Found d) ↔ Shortest N C (D .from) (D .to) d
+    pub found : Finished S → (d : ℕ) → (S ≡ Found d) ↔ LeastMatching N C (D .from) (D .to) d
 
   -- wherever start is not refused, every preparation is right, and one comes to its finish
   pub record Demand2 (w : List ℕ) : Type 0 where
-    pub right : (n m : ℕ) (S : Status) (a : List ℕ) → Made D w n m S a → Prepared w n S a
+    pub right : (n m : ℕ) (S : Status) (a : List ℕ) → Made D w n m S a → RightAfter w n S a
     pub finish : (p : Progress) (b : List ℕ) → start D w ≡ leave p b → (n : ℕ) × (m : ℕ) × (S : Status) × (a : List ℕ) × Made D w n m S a × Finished S
 
   -- ---- the count rule. 01: "If a match exists, the count when Found first shows equals its least length. If none exists, the count when
   -- None first shows is 0 with no reached pair, otherwise 1 plus the greatest least length of any reached pair; it is never above V×Q. So
   -- at the first Found or None of a preparation begun by start, the reported count equals the number of rounds the definition needs."
   abbrev pub NoPair : Type 0
-  NoPair = (v q d : ℕ) → v < N .marks → q < C .states → Nearest N C (D .from) v q d → ⊥
+  NoPair = (v q d : ℕ) → v < N .marks → q < C .states → LeastReaching N C (D .from) v q d → ⊥
 
   pub record Greatest (d : ℕ) : Type 0 where
-    pub met : (v : ℕ) × (q : ℕ) × (v < N .marks) × (q < C .states) × Nearest N C (D .from) v q d
-    pub most : (v q e : ℕ) → v < N .marks → q < C .states → Nearest N C (D .from) v q e → e ≤ d
+    pub met : (v : ℕ) × (q : ℕ) × (v < N .marks) × (q < C .states) × LeastReaching N C (D .from) v q d
+    pub most : (v q e : ℕ) → v < N .marks → q < C .states → LeastReaching N C (D .from) v q e → e ≤ d
 
   pub record Counted (n m : ℕ) (S : Status) : Type 0 where
     pub made : m ≡ n

@@ -1,6 +1,6 @@
 -- The words in which the rest is written: tests over numbers, sets of numbers held in a number, tables, lists that are looked through.
 use Prim.Native.Nat.{ℕ, zero, suc, _+_, _/_, _%_, _^_}
-use mathlib.Core.Bool.{Bool, true, false, _||_, not}
+use mathlib.Core.Bool.{Bool, true, false, _||_}
 use mathlib.Core.List.{List, [], _∷_}
 use lib.Bits.{bitOr}
 use lib.Dec.{ltb, eqb}
@@ -43,10 +43,6 @@ onlyBelow n s = ltb s (2 ^ n)
 unfoldable pub setBelow : ℕ → (ℕ → Bool) → ℕ
 setBelow zero p = 0
 setBelow (suc n) p = pick (p n) (bitOr (setBelow n p) (2 ^ n)) (setBelow n p)
-
--- the set is not empty
-unfoldable pub nonempty : ℕ → Bool
-nonempty s = not (eqb s 0)
 
 -- how many numbers of the list pass
 unfoldable pub tally : (ℕ → Bool) → List ℕ → ℕ

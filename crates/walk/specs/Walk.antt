@@ -42,15 +42,15 @@ module _ (N : Network) (C : Condition) where
   Matches c = (q : ℕ) × (accepts C q ≡ true) × Reaches c q
 
   -- the least length of a chain from s to v that reaches the state q is d
-  abbrev pub Nearest : ℕ → ℕ → ℕ → ℕ → Type 0
-  Nearest s v q d = LeastLength (λ c. Joins N s c v × Reaches c q) d
+  abbrev pub LeastReaching : ℕ → ℕ → ℕ → ℕ → Type 0
+  LeastReaching s v q d = LeastLength (λ c. Joins N s c v × Reaches c q) d
 
   -- the least length of a matching chain from s to t is d (definition 8, λ)
-  abbrev pub Shortest : ℕ → ℕ → ℕ → Type 0
-  Shortest s t d = LeastLength (λ c. Joins N s c t × Matches c) d
+  abbrev pub LeastMatching : ℕ → ℕ → ℕ → Type 0
+  LeastMatching s t d = LeastLength (λ c. Joins N s c t × Matches c) d
 
   -- the chain c is listed: it joins s to t, matches, and has the least length of those that do (definition 8)
   pub record Listed (s t : ℕ) (c : List ℕ) : Type 0 where
     pub joins : Joins N s c t
     pub matches : Matches c
-    pub shortest : Shortest s t (length c)
+    pub shortest : LeastMatching s t (length c)
