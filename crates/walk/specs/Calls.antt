@@ -1,4 +1,5 @@
--- What each call answers, and every word of the buffer that it may write afterwards, for every input.
+-- What each call answers, and every word of the buffer that it may write afterwards, for every input. Start and a round may write the area and
+-- are lent no chain buffer; first and next may write the chain buffer and are lent the area to be read.
 use Prim.Native.Nat.{ℕ, suc}
 use mathlib.Core.Bool.{true, false}
 use mathlib.Core.List.{List, [], _∷_, _++_}
@@ -78,6 +79,7 @@ module _ (D : Question) where
   unfoldable pub round : ℕ → List ℕ → Done Progress
   round r w = judged (round-tests D r w) w (stepped r w (status D r))
 
+  -- r is the count of rounds done, w the area, c the chain buffer
   unfoldable pub first : ℕ → List ℕ → List ℕ → Done Reply
   first r w c = judged (first-tests D r w c) c (earliest c (status D r))
 

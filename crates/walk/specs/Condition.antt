@@ -16,15 +16,17 @@ pub record Condition : Type 0 where
   pub moves : List Move
 
 module _ (C : Condition) where
+  -- move j, of those lent "as a list of such records"
   abbrev pub moveAt : ℕ → Move
   moveAt j = getD (C .moves) j (record { from = 0; kind = 0; to = 0 })
 
+  -- q is a start state, q is an accepting state (000: I, F)
   unfoldable pub starts : ℕ → Bool
   starts q = has (C .start) q
 
   unfoldable pub accepts : ℕ → Bool
   accepts q = has (C .accept) q
 
-  -- state q follows state p under kind k: some move says so
+  -- state q follows state p under kind k: some move says so (000: Δ). "Equal moves may be repeated."
   unfoldable pub follows : ℕ → ℕ → ℕ → Bool
   follows p k q = anyBelow (length (C .moves)) (λ j. eqb (moveAt j .from) p and eqb (moveAt j .kind) k and eqb (moveAt j .to) q)

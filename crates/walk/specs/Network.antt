@@ -17,6 +17,7 @@ module _ (N : Network) where
   abbrev pub ties : ℕ
   ties = length (N .froms)
 
+  -- the from mark, the to mark and the kinds of tie e (000: SRC, TGT, LBL)
   abbrev pub fromOf : ℕ → ℕ
   fromOf e = getD (N .froms) e 0
 

@@ -29,6 +29,7 @@ number Unfinished = 9
 number ShortChain = 10
 number NotListed = 11
 
+-- a row of the table: the columns "Given exactly when" and "Place"
 pub record Row : Type 0 where
   pub name : Refusal
   pub given : Bool
@@ -45,6 +46,7 @@ atFirst x n bad = row x (ltb (least bad n) n) (least bad n)
 abbrev within : ℕ → ℕ → ℕ → Bool
 within lo x hi = leb lo x and leb x hi
 
+-- what the rows ask of a status
 abbrev pub isGoing : Status → Bool
 isGoing (Found n) = false
 isGoing None = false

@@ -8,12 +8,14 @@ use Rattle.walk.specs.Condition.{Condition, starts, accepts, follows}
 use Rattle.walk.specs.Question.{Question}
 use Rattle.walk.specs.Calls as Calls
 
+-- the four calls; the number is the count of rounds that is handed in
 pub data Call : Type 0 where
   start : Call
   round : ℕ → Call
   first : ℕ → Call
   next : ℕ → Call
 
+-- what is heard of any of them
 pub data Heard : Type 0 where
   refused : ℕ → ℕ → Heard
   after : ℕ → Status → Heard
@@ -21,12 +23,14 @@ pub data Heard : Type 0 where
   none : Heard
   end : Heard
 
+-- a call, its answer, and the two buffers after it
 pub record Step : Type 0 where
   pub asked : Call
   pub heard : Heard
   pub area : List ℕ
   pub chain : List ℕ
 
+-- what is asked and lent, and the calls that are made
 pub record Session : Type 0 where
   pub question : Question
   pub area : List ℕ
@@ -59,6 +63,7 @@ made D w c (round r) = prepares (round r) (Calls.round D r w) c
 made D w c (first r) = lists (first r) (Calls.first D r w c) w
 made D w c (next r) = lists (next r) (Calls.next D r w c) w
 
+-- the calls of the steps, made one after the other
 unfoldable pub play : Question → List ℕ → List ℕ → List Step → List Step
 play D w c [] = []
 play D w c (x ∷ xs) = let y = made D w c (x .asked) in y ∷ play D (y .area) (y .chain) xs
