@@ -14,7 +14,7 @@ use Rattle.walk.specs.Numbers.{_and_, pick, table}
 use Rattle.walk.specs.Network.{Network}
 use Rattle.walk.specs.Condition.{Condition, starts}
 use Rattle.walk.specs.Area.{pairs, word, area, pairsAt}
-use Rattle.walk.proofs.Tests.{eqb-of, getD-table, length-table, table-ext, yes-same, tally-in, tally-of}
+use Rattle.walk.proofs.Numbers.{eqb-of, getD-table, length-table, table-ext, yes-same, tally-in, tally-of}
 use Rattle.walk.proofs.Executable.{Sound, arc-in}
 use Rattle.walk.proofs.Words.{unreached, Right, comes, comes-in, comes-of, word-zero, word-suc}
 

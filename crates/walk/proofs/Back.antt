@@ -19,7 +19,7 @@ use Rattle.walk.specs.Condition.{Condition, accepts}
 use Rattle.walk.specs.Walk.{Joins, Matches, LeastMatching}
 use Rattle.walk.specs.Area.{leads, reach, word}
 use Rattle.walk.specs.Chains.{list}
-use Rattle.walk.proofs.Tests.{Yes, and-in, and-of, eqb-of, anyBelow-in, anyBelow-of}
+use Rattle.walk.proofs.Numbers.{Yes, and-in, and-of, eqb-of, anyBelow-in, anyBelow-of}
 use Rattle.walk.proofs.Sets.{nonempty, set-in, set-of, some-of, in-some, set-small}
 use Rattle.walk.proofs.Executable.{Sound, Arc, Runs, runs-nil, runs-cons, leads-states, reach-law, reach-suc, suc-reach, joins-split, joins-join, runs-split, runs-join}
 use Rattle.walk.proofs.Words.{unreached, word-is}

@@ -15,7 +15,7 @@ use Rattle.walk.specs.Condition.{Condition}
 use Rattle.walk.specs.Walk.{LeastLength, LeastMatching}
 use Rattle.walk.specs.Area as Area
 use Rattle.walk.specs.Question.{Question, pairs, right, status}
-use Rattle.walk.specs.Demands.{Made, begun, Finished, RightWord, NoMatch, RightAfter, Demand2}
+use Rattle.walk.specs.Demands.{Made, begun, Finished, Finish, RightWord, NoMatch, RightAfter, Demand2}
 use Rattle.walk.proofs.Executable.{Sound}
 use Rattle.walk.proofs.Words.{unreached, word-is}
 use Rattle.walk.proofs.Areas.{area-at, place-in}
@@ -73,16 +73,16 @@ module _ (D : Question) where
       none-is N C s t (R .sound) (R .to-in) n few e .1 (length c) (matched-law N C s t (R .sound) (length c) .1 (c, refl, (j, m)))
 
   module _ (w : List ℕ) where
-    finish : (k n m : ℕ) (S : Status) (a : List ℕ) → n + k ≡ pairs D → Made D w n m S a → (i : ℕ) × (j : ℕ) × (T : Status) × (b : List ℕ) × Made D w i j T b × Finished T
+    finish : (k n m : ℕ) (S : Status) (a : List ℕ) → n + k ≡ pairs D → Made D w n m S a → Finish D w
     finish zero n m S a z M =
         ⊎-elim
         (λ e. let H = holds D w M in let l = below-pairs D (ready D (H .lent)) n (H .within) (sym (H .is) ∙ e) in absurd (omega arith))
-        (λ f. (n, m, S, a, M, f))
+        (λ f. record { rounds = n; count = m; status = S; area = a; made = M; finished = f })
         (going-or-finished S)
     finish (suc k) n m S a z M =
         ⊎-elim
         (λ e. finish k (suc n) (suc m) (status D (suc m)) (right D (suc m) ++ drop (pairs D) a) (omega arith) (more D w (subst (λ (T : Status). Made D w n m T a) e M)))
-        (λ f. (n, m, S, a, M, f))
+        (λ f. record { rounds = n; count = m; status = S; area = a; made = M; finished = f })
         (going-or-finished S)
 
     prepared-right : {n m : ℕ} {S : Status} {a : List ℕ} → Made D w n m S a → RightAfter D w n S a

@@ -20,7 +20,7 @@ use Rattle.walk.specs.Chains.{firstOf, afterOf}
 use Rattle.walk.specs.Question.{Question, status, listing}
 use Rattle.walk.specs.Refusals.{unfinished, shortChain, notListed, round-tests, first-tests, next-tests}
 use Rattle.walk.specs.Calls.{Chain, NoChain, End, leave, put, earliest, later, first, next}
-use Rattle.walk.specs.Demands.{NoneGiven, Rises, Yields, ends, more, Lists, Demand3}
+use Rattle.walk.specs.Demands.{NoneGiven, Rises, Yields, ends, more, Session, Lists, Demand3}
 use Rattle.walk.proofs.Order.{member-law, stands-once, after-split}
 use Rattle.walk.proofs.Listings.{list-law, listed-law, list-rises}
 use Rattle.walk.proofs.Refusals.{none-append, none-one, judged-none, Ready, ready, start-passes, round-passes}
@@ -118,13 +118,18 @@ module _ (D : Question) (r : ℕ) (a : List ℕ) where
     yields [] xs c x e = ends (last-gives xs c x e)
     yields (y ∷ k) xs c x e = more (after-gives xs c y k x e) (yields k (xs ++ (c ∷ [])) y x (e ∙ sym (append-assoc xs (c ∷ []) (y ∷ k))))
 
+    session : (b : List ℕ) → n ≤ length b → Session D r a n b
+    session b l =
+        let (c, k, e) = some-chain (listing D n) refl in
+        record { chain = c; others = k; begins = first-gives b c k l e; goes-on = yields k [] c (drop n b) e; whole = e }
+
     pub lists : Lists D r a n
     lists = record {
       all = listed;
       rises = rising;
-      once = λ xs c ys e. stands-once xs c ys (subst (λ (l : List (List ℕ)). Rises l) e rising);
-      session = λ b l. (let (c, k, e) = some-chain (listing D n) refl in (c, k, e, first-gives b c k l e, yields k [] c (drop n b) e));
-      after = after-gives;
+      once = λ xs ys c e. stands-once xs c ys (subst (λ (l : List (List ℕ)). Rises l) e rising);
+      session = session;
+      after = λ xs ys c y x e. after-gives xs c y ys x e;
       last = last-gives;
     }
 

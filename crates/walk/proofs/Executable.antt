@@ -13,7 +13,7 @@ use Rattle.walk.specs.Condition.{Condition, starts, accepts, follows}
 use Rattle.walk.specs.Walk.{Joins, Label, Spells, Reaches, Matches}
 use Rattle.walk.specs.Area.{leads, reach}
 use Rattle.walk.specs.Chains.{joins, along, reached, matches}
-use Rattle.walk.proofs.Tests.{Yes, and-in, and-of, eqb-of, anyBelow-in, anyBelow-of}
+use Rattle.walk.proofs.Numbers.{Yes, and-in, and-of, eqb-of, anyBelow-in, anyBelow-of}
 use Rattle.walk.proofs.Sets.{set-in, set-of}
 
 -- what the tests of network and condition leave: every mark, kind and state that is named is there

@@ -18,7 +18,7 @@ use Rattle.walk.specs.Network.{Network, ties, toOf}
 use Rattle.walk.specs.Condition.{Condition}
 use Rattle.walk.specs.Walk.{Joins, Matches, LeastMatching}
 use Rattle.walk.specs.Chains.{before, list, firstOf, afterOf}
-use Rattle.walk.proofs.Tests.{Yes, and-in, and-of, eqb-of, least-is}
+use Rattle.walk.proofs.Numbers.{Yes, and-in, and-of, eqb-of, least-is}
 use Rattle.walk.proofs.Sets.{nonempty}
 use Rattle.walk.proofs.Executable.{Sound, joins-split}
 use Rattle.walk.proofs.Words.{unreached}

@@ -14,7 +14,7 @@ use Rattle.walk.specs.Network.{Network}
 use Rattle.walk.specs.Condition.{Condition}
 use Rattle.walk.specs.Walk.{LeastReaching}
 use Rattle.walk.specs.Area.{pairs, reach, word, area, pairsAt}
-use Rattle.walk.proofs.Tests.{FirstAt, first-one, table-ext}
+use Rattle.walk.proofs.Numbers.{FirstAt, first-one, table-ext}
 use Rattle.walk.proofs.Executable.{Sound, Arc, arc-in, reach-law, reach-suc, suc-reach}
 use Rattle.walk.proofs.Words.{unreached, Word, word-is, one-word}
 use Rattle.walk.proofs.Areas.{place-in, mark-of, state-of, pair-in, pairsAt-law}

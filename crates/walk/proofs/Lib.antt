@@ -1,5 +1,5 @@
 pub mod AllCases
-pub mod Tests
+pub mod Numbers
 pub mod Sets
 pub mod Executable
 pub mod Words

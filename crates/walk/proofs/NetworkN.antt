@@ -57,4 +57,4 @@ three-chains c = subst (λ (l : List (List ℕ)). List·Memᴰ c l ↔ Listed (u
 
 -- chain 0 3 can be met in four ways and stands once
 pub stands-once : (ways (netN setsN) (condN 1) (0 ∷ 3 ∷ []) ≡ 4) × (List·Memᴰ {A = List ℕ} (0 ∷ 3 ∷ []) ((1 ∷ 3 ∷ []) ∷ (2 ∷ 4 ∷ []) ∷ []) → ⊥)
-stands-once = (claims .four-ways, lists .once [] (0 ∷ 3 ∷ []) ((1 ∷ 3 ∷ []) ∷ (2 ∷ 4 ∷ []) ∷ []) (claims .listed) .1)
+stands-once = (claims .four-ways, lists .once [] ((1 ∷ 3 ∷ []) ∷ (2 ∷ 4 ∷ []) ∷ []) (0 ∷ 3 ∷ []) (claims .listed) .1)

@@ -13,7 +13,7 @@ use borrow.Author.Tests.{ltb-true, lt-ltb}
 use Rattle.walk.specs.Numbers.{pick, table, same}
 use Rattle.walk.specs.Chains.{before, joined, rows, sieve, member, firstOf, afterOf}
 use Rattle.walk.specs.Demands.{Rises}
-use Rattle.walk.proofs.Tests.{Yes, and-in, and-of, or-in, or-left, or-right, same-refl, same-eq, same-of}
+use Rattle.walk.proofs.Numbers.{Yes, and-in, and-of, or-in, or-left, or-right, same-refl, same-eq, same-of}
 
 -- ---- the order
 pub before-irrefl : (c : List ℕ) → Yes (before c c) → ⊥

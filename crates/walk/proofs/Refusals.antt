@@ -20,7 +20,7 @@ use Rattle.walk.specs.Question.{Question, pairs, right}
 use Rattle.walk.specs.Refusals.{Row, atFirst, number, sizes, badTie, badCondition, badMove, badEnds, shortArea, wrongArea, lent-tests, start-tests, round-tests}
 use Rattle.walk.specs.Calls.{refused, Done, judged}
 use Rattle.walk.specs.Demands.{NoneGiven, FirstGiven}
-use Rattle.walk.proofs.Tests.{Yes, and-in, and-of, anyBelow-in, least-is, same-eq, same-of}
+use Rattle.walk.proofs.Numbers.{Yes, and-in, and-of, anyBelow-in, least-is, same-eq, same-of}
 use Rattle.walk.proofs.Sets.{zero-has, has-below}
 use Rattle.walk.proofs.Executable.{Sound}
 use Rattle.walk.proofs.Words.{Local, local-law}

@@ -11,7 +11,7 @@ use lib.Pow.{pow-pos, pow-lt, pow-mono, pow-add, shl-shr, shr-shr}
 use lib.Bits.{bitOr, or-lt, or-shr, or-step, shifted-even}
 use borrow.Author.Tests.{eqb-true, eqb-false, ltb-true, ltb-false}
 use Rattle.walk.specs.Numbers.{has, pick, setBelow}
-use Rattle.walk.proofs.Tests.{Yes, eqb-of}
+use Rattle.walk.proofs.Numbers.{Yes, eqb-of}
 
 -- the set is not empty
 unfoldable pub nonempty : ℕ → Bool

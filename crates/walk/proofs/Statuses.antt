@@ -16,7 +16,7 @@ use Rattle.walk.specs.Network.{Network}
 use Rattle.walk.specs.Condition.{Condition, accepts}
 use Rattle.walk.specs.Walk.{Joins, Matches, LeastMatching}
 use Rattle.walk.specs.Area.{pairs, reach, word, pairsAt, smallest, status}
-use Rattle.walk.proofs.Tests.{Yes, and-in, and-of, eqb-of, anyBelow-in, anyBelow-of, Least, least-is, FirstAt, first-below}
+use Rattle.walk.proofs.Numbers.{Yes, and-in, and-of, eqb-of, anyBelow-in, anyBelow-of, Least, least-is, FirstAt, first-below}
 use Rattle.walk.proofs.Executable.{Sound, reach-law}
 use Rattle.walk.proofs.Words.{unreached, word-is}
 use Rattle.walk.proofs.Areas.{pairsAt-law}

@@ -13,7 +13,7 @@ use Rattle.walk.specs.Numbers.{_and_, pick, anyBelow, least}
 use Rattle.walk.specs.Network.{Network, ties, fromOf, toOf}
 use Rattle.walk.specs.Condition.{Condition, starts}
 use Rattle.walk.specs.Area.{leads, reach, word}
-use Rattle.walk.proofs.Tests.{Yes, and-in, and-of, eqb-of, anyBelow-in, anyBelow-of, Least, least-is}
+use Rattle.walk.proofs.Numbers.{Yes, and-in, and-of, eqb-of, anyBelow-in, anyBelow-of, Least, least-is}
 use Rattle.walk.proofs.Executable.{Sound, Arc, arc-in, leads-states, reach-zero, reach-suc, suc-reach}
 
 abbrev pub unreached : ℕ

@@ -19,8 +19,12 @@ use Rattle.walk.specs.Calls.{Answer, refused, gives, Progress, Reply, Ch
 
 -- what is lent, as the definitions speak of it
 abbrev pub question : network.Network → condition.Condition → Ask → List ℕ → List ℕ → List ℕ → List Move → Question
-question n c a froms tos sets moves =
-    record { network = record { marks = n .marks; kinds = n .kinds; froms = froms; tos = tos; sets = sets }; condition = record { states = c .states; start = c .start; accept = c .accept; moves = moves }; from = a .from; to = a .to }
+question n c a froms tos sets moves = record {
+  network = record { marks = n .marks; kinds = n .kinds; froms = froms; tos = tos; sets = sets };
+  condition = record { states = c .states; start = c .start; accept = c .accept; moves = moves };
+  from = a .from;
+  to = a .to;
+}
 
 -- what each case of an answer says
 abbrev pub saidPrepared : Prepared → Answer Progress

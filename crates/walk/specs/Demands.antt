@@ -31,7 +31,8 @@ pub record FirstGiven (l : List Row) (x : Row) : Type 0 where
 -- the call's answer is a refusal exactly when a row of its list is given: the first such row's number and place; then the buffer is as it
 -- was lent
 pub record Refuses {A : Type 0} (l : List Row) (buffer : List ℕ) (d : Done A) : Type 0 where
-  pub exactly : (n p : ℕ) → (d .answer ≡ refused n p) ↔ ((x : Row) × FirstGiven l x × (number (x .name) ≡ n) × (x .place ≡ p))
+  pub exactly : (n p : ℕ) → (d .answer ≡ refused n p)
+      ↔ ((x : Row) × FirstGiven l x × (number (x .name) ≡ n) × (x .place ≡ p))
   pub stays : (n p : ℕ) → d .answer ≡ refused n p → d .left ≡ buffer
 
 pub record Demand1 (D : Question) (r : ℕ) (w c : List ℕ) : Type 0 where
@@ -44,7 +45,8 @@ pub record Demand1 (D : Question) (r : ℕ) (w c : List ℕ) : Type 0 where
 -- with the status S, and the area is a
 pub data Made (D : Question) (w : List ℕ) : ℕ → ℕ → Status → List ℕ → Type 0 where
   begun : {m : ℕ} {S : Status} {a : List ℕ} → start D w ≡ leave (record { done = m; status = S }) a → Made D w 0 m S a
-  again : {n m k : ℕ} {S : Status} {a b : List ℕ} → Made D w n m Going a → round D m a ≡ leave (record { done = k; status = S }) b → Made D w (suc n) k S b
+  again : {n m k : ℕ} {S : Status} {a b : List ℕ} → Made D w n m Going a
+      → round D m a ≡ leave (record { done = k; status = S }) b → Made D w (suc n) k S b
 
 abbrev pub Finished : Status → Type 0
 Finished S = S ≡ Going → ⊥
@@ -65,7 +67,9 @@ module _ (D : Question) where
   -- the mark for unreached. Carried to its finish, preparation says "none" exactly when no chain from the one mark to the other meets the
   -- condition as the walk paper defines it, and otherwise gives the least length."
   abbrev pub RightWord : ℕ → ℕ → ℕ → ℕ → Type 0
-  RightWord n v q x = ((x ≤ n) × LeastReaching N C (D .from) v q x) ⊎ ((x ≡ ceilings .unreached) × ((d : ℕ) → LeastReaching N C (D .from) v q d → n < d))
+  RightWord n v q x =
+      ((x ≤ n) × LeastReaching N C (D .from) v q x)
+      ⊎ ((x ≡ ceilings .unreached) × ((d : ℕ) → LeastReaching N C (D .from) v q d → n < d))
 
   abbrev pub NoMatch : Type 0
   NoMatch = (c : List ℕ) → Joins N (D .from) c (D .to) → Matches N C c → ⊥
@@ -77,10 +81,19 @@ module _ (D : Question) where
     pub none : Finished S → (S ≡ None) ↔ NoMatch
     pub found : Finished S → (d : ℕ) → (S ≡ Found d) ↔ LeastMatching N C (D .from) (D .to) d
 
-  -- wherever start is not refused, every preparation is right, and one comes to its finish
+  -- a preparation that has come to its finish
+  pub record Finish (w : List ℕ) : Type 0 where
+    pub rounds : ℕ
+    pub count : ℕ
+    pub status : Status
+    pub area : List ℕ
+    pub made : Made D w rounds count status area
+    pub finished : Finished status
+
+  -- every preparation is right, and wherever start is not refused one comes to its finish
   pub record Demand2 (w : List ℕ) : Type 0 where
     pub right : (n m : ℕ) (S : Status) (a : List ℕ) → Made D w n m S a → RightAfter w n S a
-    pub finish : (p : Progress) (b : List ℕ) → start D w ≡ leave p b → (n : ℕ) × (m : ℕ) × (S : Status) × (a : List ℕ) × Made D w n m S a × Finished S
+    pub finish : (p : Progress) (b : List ℕ) → start D w ≡ leave p b → Finish w
 
   -- ---- the count rule. 01: "If a match exists, the count when Found first shows equals its least length. If none exists, the count when
   -- None first shows is 0 with no reached pair, otherwise 1 plus the greatest least length of any reached pair; it is never above V×Q. So
@@ -107,15 +120,25 @@ module _ (D : Question) where
   -- next, handed the chain c in front of x and then each chain that it puts there, gives the chains l and then End; x stays
   pub data Yields (r : ℕ) (a x : List ℕ) : List ℕ → List (List ℕ) → Type 0 where
     ends : {c : List ℕ} → next D r a (c ++ x) ≡ leave End (c ++ x) → Yields r a x c []
-    more : {c y : List ℕ} {l : List (List ℕ)} → next D r a (c ++ x) ≡ leave Chain (y ++ x) → Yields r a x y l → Yields r a x c (y ∷ l)
+    more : {c y : List ℕ} {l : List (List ℕ)} → next D r a (c ++ x) ≡ leave Chain (y ++ x)
+        → Yields r a x y l → Yields r a x c (y ∷ l)
 
-  -- the list of chains of least length n, with the count r and the area a
+  -- first on the buffer b gives a chain, and handing each one back gives the others and then End; together they are the list
+  pub record Session (r : ℕ) (a : List ℕ) (n : ℕ) (b : List ℕ) : Type 0 where
+    pub chain : List ℕ
+    pub others : List (List ℕ)
+    pub begins : first D r a b ≡ leave Chain (chain ++ drop n b)
+    pub goes-on : Yields r a (drop n b) chain others
+    pub whole : listing D n ≡ chain ∷ others
+
+  -- the list of chains of least length n, with the count r and the area a: what it holds, its order, the session that asks for all of it, and
+  -- what any of its chains gets that is handed back in front of any x
   pub record Lists (r : ℕ) (a : List ℕ) (n : ℕ) : Type 0 where
     pub all : (c : List ℕ) → List·Memᴰ c (listing D n) ↔ Listed N C (D .from) (D .to) c
     pub rises : Rises (listing D n)
-    pub once : (xs : List (List ℕ)) (c : List ℕ) (ys : List (List ℕ)) → listing D n ≡ xs ++ (c ∷ ys) → (List·Memᴰ c xs → ⊥) × (List·Memᴰ c ys → ⊥)
-    pub session : (b : List ℕ) → n ≤ length b → (c : List ℕ) × (l : List (List ℕ)) × (listing D n ≡ c ∷ l) × (first D r a b ≡ leave Chain (c ++ drop n b)) × Yields r a (drop n b) c l
-    pub after : (xs : List (List ℕ)) (c y : List ℕ) (ys : List (List ℕ)) (x : List ℕ) → listing D n ≡ xs ++ (c ∷ (y ∷ ys)) → next D r a (c ++ x) ≡ leave Chain (y ++ x)
+    pub once : (xs ys : List (List ℕ)) (c : List ℕ) → listing D n ≡ xs ++ (c ∷ ys) → (List·Memᴰ c xs → ⊥) × (List·Memᴰ c ys → ⊥)
+    pub session : (b : List ℕ) → n ≤ length b → Session r a n b
+    pub after : (xs ys : List (List ℕ)) (c y x : List ℕ) → listing D n ≡ xs ++ (c ∷ (y ∷ ys)) → next D r a (c ++ x) ≡ leave Chain (y ++ x)
     pub last : (xs : List (List ℕ)) (c x : List ℕ) → listing D n ≡ xs ++ (c ∷ []) → next D r a (c ++ x) ≡ leave End (c ++ x)
 
   abbrev pub Demand3 : List ℕ → Type 0
