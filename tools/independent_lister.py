@@ -1,0 +1,231 @@
+#!/usr/bin/env python3
+"""independent_lister.py SEED SESSIONS: random sessions at the desk, with every answer and buffer as document 01 says.
+
+A lister that shares nothing with the definitions: it goes forward from s by layers, and lists by trying every
+row of ties. It prints a table in the form of crates/walk/specs/OwnCases.antt, which the gate has the prover
+compute from the definitions. On standard error it says how often each answer occurs.
+"""
+import collections
+import itertools
+import random
+import sys
+
+UNREACHED = 65535
+
+Question = collections.namedtuple("Question", "marks kinds froms tos sets states start accept moves s t")
+
+
+def members(bits):
+    return {i for i in range(32) if bits >> i & 1}
+
+
+def words(q, rounds):
+    """The right area: pairs are reached layer by layer, from the start states at s."""
+    length = {(q.s, p): 0 for p in members(q.start)}
+    layer = set(length)
+    for n in range(1, rounds + 1):
+        layer = {
+            (to, after)
+            for mark, state in layer
+            for fro, to, kinds in zip(q.froms, q.tos, q.sets) if fro == mark
+            for before, kind, after in q.moves if before == state and kind in members(kinds)
+        } - set(length)
+        length.update((pair, n) for pair in layer)
+    return [length.get((v, p), UNREACHED) for v in range(q.marks) for p in range(q.states)]
+
+
+def status(q, rounds):
+    area = words(q, rounds)
+    at_t = [area[q.t * q.states + p] for p in members(q.accept)]
+    if any(word != UNREACHED for word in at_t):
+        return ("Found", min(at_t))
+    return ("Going",) if rounds in area else ("None",)
+
+
+def matches(q, chain):
+    mark, alive = q.s, members(q.start)
+    for tie in chain:
+        if q.froms[tie] != mark:
+            return False
+        mark = q.tos[tie]
+        alive = {after for before, kind, after in q.moves if before in alive and kind in members(q.sets[tie])}
+    return mark == q.t and bool(alive & members(q.accept))
+
+
+def chains(q, length):
+    rows = itertools.product(range(len(q.froms)), repeat=length)
+    return sorted((list(row) for row in rows if matches(q, row)), key=lambda chain: chain[::-1])
+
+
+def refusal(q, call, rounds, area, chain):
+    """Number and place of the first row of the table that is given, or None."""
+    pairs, ties = q.marks * q.states, range(len(q.froms))
+    if not (1 <= q.marks <= 1024 and 1 <= q.kinds <= 32 and len(ties) <= 4096 and len(q.tos) == len(q.sets) == len(ties)):
+        return (1, 0)
+    for e in ties:
+        if q.froms[e] >= q.marks or q.tos[e] >= q.marks or q.sets[e] >= 2 ** q.kinds:
+            return (2, e)
+    for e in ties[1:]:
+        if q.tos[e] < q.tos[e - 1]:
+            return (3, e)
+    if not (1 <= q.states <= 32 and len(q.moves) <= 256 and q.start < 2 ** q.states and q.accept < 2 ** q.states):
+        return (4, 0)
+    for j, (before, kind, after) in enumerate(q.moves):
+        if before >= q.states or kind >= q.kinds or after >= q.states:
+            return (5, j)
+    if q.s >= q.marks or q.t >= q.marks:
+        return (6, 0)
+    if len(area) < pairs:
+        return (7, pairs)
+    if call == "start":
+        return None
+    if rounds > pairs or area[:pairs] != words(q, rounds):
+        return (8, 0)
+    if call == "round":
+        return None
+    now = status(q, rounds)
+    if now[0] == "Going":
+        return (9, 0)
+    if now[0] == "Found" and len(chain) < now[1]:
+        return (10, now[1])
+    if call == "next" and (now[0] == "None" or chain[:now[1]] not in chains(q, now[1])):
+        return (11, 0)
+    return None
+
+
+def made(q, call, rounds, area, chain):
+    """The answer of a call, and the area and the chain buffer after it."""
+    refused = refusal(q, call, rounds, area, chain)
+    if refused:
+        return ("refused",) + refused, area, chain
+    rest = area[q.marks * q.states:]
+    if call == "start":
+        return ("after", 0, status(q, 0)), words(q, 0) + rest, chain
+    now = status(q, rounds)
+    if call == "round":
+        if now[0] != "Going":
+            return ("after", rounds, now), area, chain
+        return ("after", rounds + 1, status(q, rounds + 1)), words(q, rounds + 1) + rest, chain
+    if now[0] == "None":
+        return ("none",), area, chain
+    listed = chains(q, now[1])
+    at = 0 if call == "first" else listed.index(chain[:now[1]]) + 1
+    if at == len(listed):
+        return ("end",), area, chain
+    return ("chain",), area, listed[at] + chain[now[1]:]
+
+
+# ---- sessions
+
+
+def some_question():
+    v, k, states = random.randint(1, 3), random.randint(1, 2), random.randint(1, 3)
+    ties = [(random.randrange(v), random.randrange(v), random.randrange(2 ** k)) for _ in range(random.randint(0, 5))]
+    ties.sort(key=lambda tie: tie[1])
+    moves = [(random.randrange(states), random.randrange(k), random.randrange(states)) for _ in range(random.randint(0, 6))]
+    start = random.randrange(2 ** states) | (random.random() < 0.8)
+    accept = random.randrange(2 ** states) | (random.random() < 0.8) << (states - 1)
+    froms, tos, sets = ([tie[i] for tie in ties] for i in range(3))
+    return Question(v, k, froms, tos, sets, states, start, accept, moves, random.randrange(v), random.randrange(v))
+
+
+def faulty(q):
+    """The question with one fault, where there is something to spoil."""
+    last = len(q.froms) - 1
+    return random.choice([
+        q._replace(kinds=33),
+        q._replace(froms=q.froms[:last] + [q.marks]) if q.froms else q,
+        q._replace(tos=q.tos[::-1]),
+        q._replace(accept=q.accept | 1 << q.states),
+        q._replace(moves=q.moves + [(0, q.kinds, 0)]),
+        q._replace(t=q.marks),
+    ])
+
+
+class Session:
+    def __init__(self, q, area, chain):
+        self.q, self.area, self.chain, self.lent, self.steps = q, area, chain, (area, chain), []
+
+    def make(self, call, rounds=0):
+        answer, self.area, self.chain = made(self.q, call, rounds, self.area, self.chain)
+        self.steps.append((call, rounds, answer, self.area, self.chain))
+        return answer
+
+
+def whole(q):
+    """Start, rounds to the finish, the first chain and the others, now and then with a larger count."""
+    session = Session(q, [7] * (q.marks * q.states + random.randint(-1, 2)), [9] * random.randint(0, 4))
+    answer = session.make("start")
+    if answer[0] == "refused":
+        return session, 0
+    while answer[2][0] == "Going":
+        if random.random() < 0.1:
+            session.make(random.choice(["first", "next"]), answer[1])
+        answer = session.make("round", answer[1])
+    rounds = answer[1] + (random.randint(1, 2) if random.random() < 0.2 else 0)
+    answer = session.make("first", rounds)
+    while answer[0] == "chain" and len(session.steps) < 12:
+        answer = session.make("next", rounds)
+    return session, rounds
+
+
+def spoiled(q, area, rounds):
+    """Next and a round on a finished area, with any chain and sometimes one word changed."""
+    if random.random() < 0.5:
+        at = random.randrange(len(area))
+        area = area[:at] + [random.choice([0, 1, 2, UNREACHED])] + area[at + 1:]
+    session = Session(q, area, [random.randint(0, len(q.froms)) for _ in range(random.randint(0, 4))])
+    session.make("next", rounds)
+    session.make("round", random.choice([rounds, rounds + 1, 0]))
+    return session
+
+
+def sessions(count):
+    made_up = []
+    while len(made_up) < count:
+        q = some_question()
+        session, rounds = whole(faulty(q) if random.random() < 0.15 else q)
+        made_up.append(session)
+        if rounds:
+            made_up.append(spoiled(session.q, session.area, rounds))
+    return made_up
+
+
+# ---- the table
+
+
+def row(numbers):
+    return " ∷ ".join([str(n) for n in numbers] + ["[]"])
+
+
+def written(answer):
+    text = [str(part) if not isinstance(part, tuple) else "(" + " ".join(map(str, part)) + ")" for part in answer]
+    return "(" + " ".join(text) + ")"
+
+
+def table(all_sessions):
+    for session in all_sessions:
+        q = session.q
+        moves = row("move %d %d %d" % move for move in q.moves)
+        yield "session (ask (record { marks = %d; kinds = %d; froms = %s; tos = %s; sets = %s })" % (q.marks, q.kinds, row(q.froms), row(q.tos), row(q.sets))
+        yield "    (record { states = %d; start = %d; accept = %d; moves = %s }) %d %d) (%s) (%s) (" % (q.states, q.start, q.accept, moves, q.s, q.t, *map(row, session.lent))
+        for call, rounds, answer, area, chain in session.steps:
+            yield "    step %s %s (%s) (%s) ∷" % (call if call == "start" else "(%s %d)" % (call, rounds), written(answer), row(area), row(chain))
+        yield "    []) ∷"
+    yield "[]"
+
+
+def main():
+    random.seed(int(sys.argv[1]))
+    all_sessions = sessions(int(sys.argv[2]))
+    print("use mathlib.Core.List.{List, [], _∷_}")
+    print("use Rattle.walk.specs.declared.Status.the-variants.{Found, None, Going}")
+    print("use Rattle.walk.specs.Sessions.{start, round, first, next, refused, chain, none, end, after, Session}")
+    print("use Rattle.walk.specs.Cases.{step, session, move, ask}")
+    print("\nunfoldable pub own : List Session\nown =")
+    print("\n".join("    " + line for line in table(all_sessions)))
+    heard = collections.Counter(" ".join(map(str, answer[:2])) if answer[0] == "refused" else answer[0] for s in all_sessions for _, _, answer, _, _ in s.steps)
+    print(", ".join("%s: %d" % pair for pair in sorted(heard.items())), file=sys.stderr)
+
+
+main()
