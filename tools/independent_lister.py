@@ -11,6 +11,7 @@ import random
 import sys
 
 UNREACHED = 65535
+ROWS = 4096  # more rows of ties than these the prover is not asked to look through
 
 Question = collections.namedtuple("Question", "marks kinds froms tos sets states start accept moves s t")
 
@@ -119,12 +120,11 @@ def made(q, call, rounds, area, chain):
 
 
 def some_question():
-    v, k, states = random.randint(1, 3), random.randint(1, 2), random.randint(1, 3)
-    ties = [(random.randrange(v), random.randrange(v), random.randrange(2 ** k)) for _ in range(random.randint(0, 5))]
+    v, k, states = random.randint(1, 5), random.randint(1, 3), random.randint(1, 3)
+    ties = [(random.randrange(v), random.randrange(v), random.randrange(2 ** k)) for _ in range(random.randint(0, 8))]
     ties.sort(key=lambda tie: tie[1])
-    moves = [(random.randrange(states), random.randrange(k), random.randrange(states)) for _ in range(random.randint(0, 6))]
-    start = random.randrange(2 ** states) | (random.random() < 0.8)
-    accept = random.randrange(2 ** states) | (random.random() < 0.8) << (states - 1)
+    moves = [(random.randrange(states), random.randrange(k), random.randrange(states)) for _ in range(random.randint(0, 8))]
+    start, accept = random.choice([0, 1, 1, 1, 2 ** states - 1]), random.choice([0, 1, 1 << states - 1, 1 << states - 1, 2 ** states - 1])
     froms, tos, sets = ([tie[i] for tie in ties] for i in range(3))
     return Question(v, k, froms, tos, sets, states, start, accept, moves, random.randrange(v), random.randrange(v))
 
@@ -180,14 +180,25 @@ def spoiled(q, area, rounds):
     return session
 
 
+def worth(q):
+    """How likely a question is kept: most have no chain or a trivial one, and few lists are long."""
+    found = status(q, q.marks * q.states)
+    if found[0] == "None" or found[1] == 0:
+        return 0.005
+    if len(q.froms) ** found[1] > ROWS:
+        return 0
+    return 0.05 if found[1] == 1 or len(chains(q, found[1])) == 1 else 1
+
+
 def sessions(count):
     made_up = []
     while len(made_up) < count:
         q = some_question()
-        session, rounds = whole(faulty(q) if random.random() < 0.15 else q)
-        made_up.append(session)
-        if rounds:
-            made_up.append(spoiled(session.q, session.area, rounds))
+        if random.random() < worth(q):
+            session, rounds = whole(faulty(q) if random.random() < 0.1 else q)
+            made_up.append(session)
+            if rounds:
+                made_up.append(spoiled(session.q, session.area, rounds))
     return made_up
 
 
