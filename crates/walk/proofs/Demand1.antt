@@ -15,12 +15,13 @@ use Rattle.walk.specs.Question.{Question, status, listing}
 use Rattle.walk.specs.Refusals.{Row, number, start-tests, round-tests, first-tests, next-tests}
 use Rattle.walk.specs.Calls.{refused, gives, Progress, Reply, NoChain, End, Done, judged, prepared, stepped, put, earliest, later, start, round, first, next}
 use Rattle.walk.specs.Demands.{NoneGiven, FirstGiven, Refuses, Demand1}
+use Rattle.walk.proofs.Numbers.{clash}
 use Rattle.walk.proofs.Refusals.{first-or-none, judged-none, judged-first}
 
 module _ {A : Type 0} (l : List Row) (w : List ℕ) (d : Done A) (found : (a : A) × (d .answer ≡ gives a)) where
   -- the work gives something, so what is refused was refused by a row
   work : {n p : ℕ} → d .answer ≡ refused n p → ⊥
-  work e = let f = found .1 in let z : _≡_ {A = ℕ} 0 1 = cc in omega arith
+  work e = let f = found .1 in clash cc
 
   judge : Refuses l w (judged l w d)
   judge = go (first-or-none l)

@@ -16,10 +16,11 @@ use Rattle.walk.specs.Walk.{LeastLength, LeastMatching}
 use Rattle.walk.specs.Area as Area
 use Rattle.walk.specs.Question.{Question, pairs, right, status}
 use Rattle.walk.specs.Demands.{Made, begun, Finished, Finish, RightWord, NoMatch, RightAfter, Demand2}
+use Rattle.walk.proofs.Numbers.{clash}
 use Rattle.walk.proofs.Executable.{Sound}
 use Rattle.walk.proofs.Words.{unreached, word-is}
 use Rattle.walk.proofs.Areas.{area-at, place-in}
-use Rattle.walk.proofs.Lengths.{Dist, dist-law, word-dist, dist-word}
+use Rattle.walk.proofs.Lengths.{Dist, dist-law, word-dist, dist-word, dist-bound}
 use Rattle.walk.proofs.Statuses.{matched-law, shortest-law, found-is, none-is}
 use Rattle.walk.proofs.Refusals.{Ready, ready}
 use Rattle.walk.proofs.Preparations.{Holds, holds, right-long, below-pairs, more}
@@ -33,8 +34,8 @@ least-same A B =
     omega arith
 
 going-or-finished : (S : Status) → (S ≡ Going) ⊎ Finished S
-going-or-finished (Found d) = inr (λ e. (let y : _≡_ {A = ℕ} 0 1 = cc in omega arith))
-going-or-finished None = inr (λ e. (let y : _≡_ {A = ℕ} 0 1 = cc in omega arith))
+going-or-finished (Found d) = inr (λ e. clash cc)
+going-or-finished None = inr (λ e. clash cc)
 going-or-finished Going = inl refl
 
 module _ (D : Question) where
@@ -91,6 +92,8 @@ module _ (D : Question) where
       words = λ v q hv hq. subst (λ (x : ℕ). RightWord D n v q x) (sym (at-pair v q hv hq)) (word-right R n v q few);
       rest = ap (λ (l : List ℕ). drop (pairs D) l) (H .area) ∙ drop-at (right D n) (drop (pairs D) w) (pairs D) (right-long D n);
       long = ap length (H .area) ∙ length-front w (right D n) (pairs D) (right-long D n ∙ sym (length-take-le (pairs D) w (H .room)));
+      bounded = λ v q d hv hq L. dist-bound N C s (R .sound) d v q (dist-law N C s (R .sound) d v q .1 L) hv hq;
+      ceiling = R .few;
       none = λ f. (λ e. none-match R n few (sym (H .is) ∙ e), λ no-match. not-found f S refl (λ d e. let (c, _, (j, x)) = found-short R n d few (sym (H .is) ∙ e) .1 .met in no-match c j x));
       found = λ f d. (λ e. found-short R n d few (sym (H .is) ∙ e) .1, λ L. is-found f S refl d L);
     }

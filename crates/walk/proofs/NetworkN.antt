@@ -11,6 +11,7 @@ use Rattle.walk.specs.Refusals.{Row, number, next-tests}
 use Rattle.walk.specs.Sessions.{ways}
 use Rattle.walk.specs.Cases.{netN, setsN, condN, N, blank, after2, lone, lone0, buf}
 use Rattle.walk.specs.Demands.{FirstGiven, Made, begun, again, NoMatch, RightAfter, Counted, Lists}
+use Rattle.walk.proofs.Numbers.{clash}
 use Rattle.walk.proofs.AllCases.{claims}
 use Rattle.walk.proofs.Demand1.{demand-1}
 use Rattle.walk.proofs.Demand2.{demand-2}
@@ -22,7 +23,7 @@ made : Made N blank 2 2 (Found 2) after2
 made = again (again (begun (claims .started)) (claims .once)) (claims .twice)
 
 finished : Found 2 ≡ Going → ⊥
-finished e = let z : _≡_ {A = ℕ} 0 1 = cc in omega arith
+finished e = clash cc
 
 -- demand 1: next after 0 4 is refused with 11 because a row of that number is the first that is given
 pub refused-11 : (x : Row) × FirstGiven (next-tests N 2 after2 (buf 0 4)) x × (number (x .name) ≡ 11) × (x .place ≡ 0)
@@ -43,7 +44,7 @@ lone-made : Made lone blank 1 1 None lone0
 lone-made = again (begun (claims .lone-started)) (claims .lone-once)
 
 pub no-chain : NoMatch lone
-no-chain = demand-2 lone blank .right 1 1 None lone0 lone-made .none (λ e. (let z : _≡_ {A = ℕ} 0 1 = cc in omega arith)) .0 refl
+no-chain = demand-2 lone blank .right 1 1 None lone0 lone-made .none (λ e. clash cc) .0 refl
 
 pub lone-counted : Counted lone 1 1 None
 lone-counted = count-rule lone blank 1 1 None lone0 lone-made

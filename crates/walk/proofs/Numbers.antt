@@ -15,6 +15,10 @@ use Rattle.walk.specs.Numbers.{_and_, pick, anyBelow, least, table, tall
 abbrev pub Yes : Bool → Type 0
 Yes b = b ≡ true
 
+-- two constructors are at odds: `cc` makes 0 and 1 equal of them
+pub clash {ℓ} : {A : Type ℓ} → _≡_ {A = ℕ} 0 1 → A
+clash e = absurd (omega arith)
+
 pub and-in : (a b : Bool) → Yes (a and b) → Yes a × Yes b
 unfolding _and_
 and-in true b t = (refl, t)

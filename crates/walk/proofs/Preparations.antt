@@ -16,6 +16,7 @@ use Rattle.walk.specs.Question.{Question, pairs, right, status}
 use Rattle.walk.specs.Refusals.{Row, number, lent-tests, start-tests, round-tests}
 use Rattle.walk.specs.Calls.{refused, gives, Progress, Done, leave, judged, prepared, stepped, start, round}
 use Rattle.walk.specs.Demands.{NoneGiven, Made, begun, again}
+use Rattle.walk.proofs.Numbers.{clash}
 use Rattle.walk.proofs.Words.{unreached}
 use Rattle.walk.proofs.Areas.{length-area, pairsAt-law}
 use Rattle.walk.proofs.Lengths.{dist-bound, word-dist}
@@ -26,7 +27,7 @@ use Rattle.walk.proofs.Refusals.{first-or-none, judged-none, judged-fir
 not-refused : {A : Type 0} (l : List Row) (w : List ℕ) (d : Done A) {a : A} {b : List ℕ} → judged l w d ≡ leave a b → NoneGiven l
 not-refused {A} l w d {a} {b} e =
     ⊎-elim (λ h. h)
-    (λ (x, F). absurd (let f : refused (number (x .name)) (x .place) ≡ gives a = ap (λ (k : Done A). k .answer) (sym (judged-first w d l x F) ∙ e) in let z : _≡_ {A = ℕ} 0 1 = cc in omega arith))
+    (λ (x, F). absurd (let f : refused (number (x .name)) (x .place) ≡ gives a = ap (λ (k : Done A). k .answer) (sym (judged-first w d l x F) ∙ e) in clash cc))
     (first-or-none l)
 
 leave-same : {A : Type 0} {p q : A} {a b : List ℕ} → leave p a ≡ leave q b → (p ≡ q) × (a ≡ b)

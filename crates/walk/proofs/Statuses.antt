@@ -16,7 +16,7 @@ use Rattle.walk.specs.Network.{Network}
 use Rattle.walk.specs.Condition.{Condition, accepts}
 use Rattle.walk.specs.Walk.{Joins, Matches, LeastMatching}
 use Rattle.walk.specs.Area.{pairs, reach, word, pairsAt, smallest, status}
-use Rattle.walk.proofs.Numbers.{Yes, and-in, and-of, eqb-of, anyBelow-in, anyBelow-of, Least, least-is, FirstAt, first-below}
+use Rattle.walk.proofs.Numbers.{Yes, and-in, and-of, eqb-of, anyBelow-in, anyBelow-of, Least, least-is, FirstAt, first-below, clash}
 use Rattle.walk.proofs.Executable.{Sound, reach-law}
 use Rattle.walk.proofs.Words.{unreached, word-is}
 use Rattle.walk.proofs.Areas.{pairsAt-law}
@@ -32,9 +32,9 @@ decided : (b r n : ℕ) → Decided b r n (pick (leb b r) (Found b) (pick (ltb 0
 decided b r n = go (leb b r) refl (ltb 0 n) refl
   where
     go : (t : Bool) → leb b r ≡ t → (u : Bool) → ltb 0 n ≡ u → Decided b r n (pick t (Found b) (pick u Going None))
-    go true e u f = record { found = λ d k. (leb-true b r e, cc); none = λ k. absurd (let z : _≡_ {A = ℕ} 0 1 = cc in omega arith); going = λ k. absurd (let z : _≡_ {A = ℕ} 0 1 = cc in omega arith) }
-    go false e true f = record { found = λ d k. absurd (let z : _≡_ {A = ℕ} 0 1 = cc in omega arith); none = λ k. absurd (let z : _≡_ {A = ℕ} 0 1 = cc in omega arith); going = λ k. (leb-false b r e, ltb-true 0 n f) }
-    go false e false f = record { found = λ d k. absurd (let z : _≡_ {A = ℕ} 0 1 = cc in omega arith); none = λ k. (leb-false b r e, (let l = ltb-false 0 n f in omega arith)); going = λ k. absurd (let z : _≡_ {A = ℕ} 0 1 = cc in omega arith) }
+    go true e u f = record { found = λ d k. (leb-true b r e, cc); none = λ k. clash cc; going = λ k. clash cc }
+    go false e true f = record { found = λ d k. clash cc; none = λ k. clash cc; going = λ k. (leb-false b r e, ltb-true 0 n f) }
+    go false e false f = record { found = λ d k. clash cc; none = λ k. (leb-false b r e, (let l = ltb-false 0 n f in omega arith)); going = λ k. clash cc }
 
 module _ (N : Network) (C : Condition) (s t : ℕ) (ok : Sound N C) where
   -- some chain of length m from s to t matches, by what is computed

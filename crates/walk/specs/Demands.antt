@@ -78,6 +78,9 @@ module _ (D : Question) where
     pub words : (v q : ℕ) → v < N .marks → q < C .states → RightWord n v q (getD a (v * C .states + q) 0)
     pub rest : drop (pairs D) a ≡ drop (pairs D) w
     pub long : length a ≡ length w
+    -- 01: "A least length is at most V×Q - 1, so at most 32,767"
+    pub bounded : (v q d : ℕ) → v < N .marks → q < C .states → LeastReaching N C (D .from) v q d → d < pairs D
+    pub ceiling : pairs D ≤ ceilings .words
     pub none : Finished S → (S ≡ None) ↔ NoMatch
     pub found : Finished S → (d : ℕ) → (S ≡ Found d) ↔ LeastMatching N C (D .from) (D .to) d
 
