@@ -16,7 +16,7 @@ use borrow.Author.Tests.{eqb-true, ltb-true, lt-ltb}
 use Rattle.walk.specs.Numbers.{has, _and_, pick, anyBelow, least, setBelow}
 use Rattle.walk.specs.Network.{Network, ties, fromOf, toOf}
 use Rattle.walk.specs.Condition.{Condition, accepts}
-use Rattle.walk.specs.Walk.{Joins, Matches, LeastMatching}
+use Rattle.walk.specs.Walk.{Joins, Fits, LeastMatching}
 use Rattle.walk.specs.Area.{leads, reach, word}
 use Rattle.walk.specs.Chains.{list}
 use Rattle.walk.proofs.Numbers.{Yes, and-in, and-of, eqb-of, anyBelow-in, anyBelow-of}
@@ -122,7 +122,7 @@ module _ (N : Network) (C : Condition) (s t r : ℕ) where
 
   -- some chain of length i before d makes it a matching chain
   abbrev pub Completes : ℕ → List ℕ → Type 0
-  Completes i d = (c : List ℕ) × (length c ≡ i) × Joins N s (c ++ d) t × Matches N C (c ++ d)
+  Completes i d = (c : List ℕ) × (length c ≡ i) × Fits N C s t (c ++ d)
 
   -- d leads on from the state p to an accepting one
   abbrev pub On : ℕ → List ℕ → Type 0
@@ -158,7 +158,7 @@ module _ (N : Network) (C : Condition) (s t r : ℕ) where
       joined : (i v p : ℕ) (d : List ℕ) → Yes (reach N C s i v p) → Joins N v d t → On p d → Completes i d
       joined i v p d h j (q, a, x) =
           let (c, l, (jc, (o, st, xc))) = reach-law N C ok s i v p .0 h in
-          (c, l, joins-join N C s c d v t jc j, (q, a, (o, st, runs-join N C ok o c d p q xc x)))
+          (c, l, (joins-join N C s c d v t jc j, (q, a, (o, st, runs-join N C ok o c d p q xc x))))
 
       -- a state that is reached with i ties, and from which d leads on, has the word i: a smaller one would give a shorter match
       exact : (i v p : ℕ) (d : List ℕ) → i + length d ≡ n → Yes (reach N C s i v p) → Joins N v d t → On p d → word N C s r v p ≡ i
@@ -166,8 +166,8 @@ module _ (N : Network) (C : Condition) (s t r : ℕ) where
           let W = word-is N C s r v p few in
           let below : word N C s r v p ≤ i = W .least i (omega arith) h in
           let not-less : ¬ (word N C s r v p < i) =
-          λ less. let (c, l, k, m′) = joined (word N C s r v p) v p d (W .met (omega arith)) j o in
-          let m = short .least (c ++ d) (k, m′) in
+          λ less. let (c, l, k) = joined (word N C s r v p) v p d (W .met (omega arith)) j o in
+          let m = short .least (c ++ d) k in
           let e = length-append c d in
           omega arith in
           omega arith
@@ -203,7 +203,7 @@ module _ (N : Network) (C : Condition) (s t r : ℕ) where
       completes-law i d z = (to, of)
         where
           to : Completes i d → Joins N (mark n d) d t × Yes (nonempty (alive n i d))
-          to (c, l, j, (q, a, (o, st, x))) =
+          to (c, l, (j, (q, a, (o, st, x)))) =
               let (v, jc, jd) = joins-split N C s c d t j in
               let (p, xc, xd) = runs-split N C ok o c d q x in
               let m = joins-mark v d jd in
@@ -243,10 +243,9 @@ module _ (N : Network) (C : Condition) (s t r : ℕ) where
       -- THE LAW OF THE TEST: a chain of the least length goes all the way back exactly if it is in the list
       pub goes-law : (c : List ℕ) → length c ≡ n → Yes (goes N back t (atEnd n) 0 c) ↔ List·Memᴰ c (list N C s t n)
       goes-law c l = (
-        λ h. let (c′, l′, j, m) = completes-law 0 c (zero-add _ ∙ l) .1 (goes-in 0 c h) in
-            let e : c′ ++ c ≡ c = ap (λ (k : List ℕ). k ++ c) (nil-of c′ l′) in
-            list-law N C s t n ok c .1 (l, subst (λ (k : List ℕ). Joins N s k t) e j, subst (λ (k : List ℕ). Matches N C k) e m),
-        λ h. let (_, j, m) = list-law N C s t n ok c .0 h in
-            let (jd, x) = completes-law 0 c (zero-add _ ∙ l) .0 ([], refl, j, m) in
-            goes-of 0 c jd x,
+        λ h. let (c′, l′, x) = completes-law 0 c (zero-add _ ∙ l) .1 (goes-in 0 c h) in
+            list-law N C s t n ok c .1 (l, subst (λ (k : List ℕ). Fits N C s t (k ++ c)) (nil-of c′ l′) x),
+        λ h. let (_, x) = list-law N C s t n ok c .0 h in
+            let (jd, y) = completes-law 0 c (zero-add _ ∙ l) .0 ([], refl, x) in
+            goes-of 0 c jd y,
       )

@@ -70,8 +70,8 @@ module _ (D : Question) where
 
   none-match : Ready D → (n : ℕ) → n < unreached → status D n ≡ None → NoMatch D
   unfolding status
-  none-match R n few e c j m =
-      none-is N C s t (R .sound) (R .to-in) n few e .1 (length c) (matched-law N C s t (R .sound) (length c) .1 (c, refl, (j, m)))
+  none-match R n few e c x =
+      none-is N C s t (R .sound) (R .to-in) n few e .1 (length c) (matched-law N C s t (R .sound) (length c) .1 (c, refl, x))
 
   module _ (w : List ℕ) where
     finish : (k n m : ℕ) (S : Status) (a : List ℕ) → n + k ≡ pairs D → Made D w n m S a → Finish D w
@@ -94,7 +94,7 @@ module _ (D : Question) where
       long = ap length (H .area) ∙ length-front w (right D n) (pairs D) (right-long D n ∙ sym (length-take-le (pairs D) w (H .room)));
       bounded = λ v q d hv hq L. dist-bound N C s (R .sound) d v q (dist-law N C s (R .sound) d v q .1 L) hv hq;
       ceiling = R .few;
-      none = λ f. (λ e. none-match R n few (sym (H .is) ∙ e), λ no-match. not-found f S refl (λ d e. let (c, _, (j, x)) = found-short R n d few (sym (H .is) ∙ e) .1 .met in no-match c j x));
+      none = λ f. (λ e. none-match R n few (sym (H .is) ∙ e), λ no-match. not-found f S refl (λ d e. let (c, _, x) = found-short R n d few (sym (H .is) ∙ e) .1 .met in no-match c x));
       found = λ f d. (λ e. found-short R n d few (sym (H .is) ∙ e) .1, λ L. is-found f S refl d L);
     }
       where
@@ -120,7 +120,7 @@ module _ (D : Question) where
 
         is-found : Finished S → (T : Status) → S ≡ T → (d : ℕ) → LeastMatching N C s t d → S ≡ Found d
         is-found f (Found i) e d L = e ∙ ap Found (least-same (found-short R n i few (sym (H .is) ∙ e) .1) L)
-        is-found f None e d L = let (c, _, (j, x)) = L .met in absurd (none-match R n few (sym (H .is) ∙ e) c j x)
+        is-found f None e d L = let (c, _, x) = L .met in absurd (none-match R n few (sym (H .is) ∙ e) c x)
         is-found f Going e d L = absurd (f e)
 
     pub demand-2 : Demand2 D w

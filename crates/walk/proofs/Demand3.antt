@@ -72,7 +72,7 @@ module _ (D : Question) (r : ℕ) (a : List ℕ) where
 
     some-chain : (l : List (List ℕ)) → listing D n ≡ l → (c : List ℕ) × (k : List (List ℕ)) × (listing D n ≡ c ∷ k)
     unfolding listing
-    some-chain [] e = let (c, k, (j, x)) = short .met in absurd (List·Memᴰ·not-nil (subst (λ (l : List (List ℕ)). List·Memᴰ c l) e (list-law N C (D .from) (D .to) n (R .sound) c .1 (k, j, x))))
+    some-chain [] e = let (c, k, x) = short .met in absurd (List·Memᴰ·not-nil (subst (λ (l : List (List ℕ)). List·Memᴰ c l) e (list-law N C (D .from) (D .to) n (R .sound) c .1 (k, x))))
     some-chain (c ∷ k) e = (c, k, e)
 
     first-gives : (b c : List ℕ) (k : List (List ℕ)) → n ≤ length b → listing D n ≡ c ∷ k → first D r a b ≡ leave Chain (c ++ drop n b)

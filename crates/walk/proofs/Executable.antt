@@ -10,7 +10,7 @@ use borrow.Author.Tests.{eqb-true, ltb-true, lt-ltb}
 use Rattle.walk.specs.Numbers.{has, setBelow}
 use Rattle.walk.specs.Network.{Network, ties, fromOf, toOf, kindsOf}
 use Rattle.walk.specs.Condition.{Condition, starts, accepts, follows}
-use Rattle.walk.specs.Walk.{Joins, Label, Spells, Reaches, Matches}
+use Rattle.walk.specs.Walk.{Joins, Label, Spells, Reaches, Fits}
 use Rattle.walk.specs.Area.{leads, reach}
 use Rattle.walk.specs.Chains.{joins, along, reached, matches}
 use Rattle.walk.proofs.Numbers.{Yes, and-in, and-of, eqb-of, anyBelow-in, anyBelow-of}
@@ -98,7 +98,7 @@ module _ (N : Network) (C : Condition) where
           λ (p, a, x). L .1 (p, set-of _ _ p (ok .start-in p a) a, x),
         )
 
-    pub matches-law : (s t : ℕ) (c : List ℕ) → Yes (matches N C s t c) ↔ (Joins N s c t × Matches N C c)
+    pub matches-law : (s t : ℕ) (c : List ℕ) → Yes (matches N C s t c) ↔ Fits N C s t c
     unfolding matches
     matches-law s t c = (
       λ h. let (a, x) = and-in _ _ h in

@@ -8,7 +8,7 @@ use native.Mathlib.Omega.{arith}
 use lib.ListN.{length}
 use Rattle.walk.specs.Network.{Network, ties, toOf}
 use Rattle.walk.specs.Condition.{Condition}
-use Rattle.walk.specs.Walk.{Joins, Matches, LeastMatching, Listed}
+use Rattle.walk.specs.Walk.{Joins, Fits, LeastMatching, Listed}
 use Rattle.walk.specs.Chains.{rows, matches, list}
 use Rattle.walk.specs.Demands.{Rises}
 use Rattle.walk.proofs.Executable.{Sound, matches-law}
@@ -24,21 +24,20 @@ module _ (N : Network) (C : Condition) (s t n : ℕ) where
   joins-below u (e ∷ c) h = (h .0, joins-below (toOf N e) c (h .2))
 
   module _ (ok : Sound N C) where
-    pub list-law : (c : List ℕ) → List·Memᴰ c (list N C s t n) ↔ ((length c ≡ n) × Joins N s c t × Matches N C c)
+    pub list-law : (c : List ℕ) → List·Memᴰ c (list N C s t n) ↔ ((length c ≡ n) × Fits N C s t c)
     unfolding list
     list-law c = (
       λ m. let (a, b) = sieve-mem (matches N C s t) (rows (ties N) n) c m in
-          let (j, x) = matches-law N C ok s t c .0 b in
-          (rows-mem (ties N) n c a, j, x),
-      λ (l, j, x). mem-sieve (matches N C s t) (rows (ties N) n) c (rw l at (mem-rows (ties N) c (joins-below s c j))) (matches-law N C ok s t c .1 (j, x)),
+          (rows-mem (ties N) n c a, matches-law N C ok s t c .0 b),
+      λ (l, x). mem-sieve (matches N C s t) (rows (ties N) n) c (rw l at (mem-rows (ties N) c (joins-below s c (x .0)))) (matches-law N C ok s t c .1 x),
     )
 
     -- at the least length the list holds exactly the listed chains (000, definition 8)
     pub listed-law : LeastMatching N C s t n → (c : List ℕ) → List·Memᴰ c (list N C s t n) ↔ Listed N C s t c
     listed-law S c = (
-      λ m. let (l, j, x) = list-law c .0 m in record { joins = j; matches = x; shortest = subst (λ (k : ℕ). LeastMatching N C s t k) (sym l) S },
-      λ L. let (d, l, (j, x)) = S .met in
-          let a = L .shortest .least d (j, x) in
-          let b = S .least c (L .joins, L .matches) in
-          list-law c .1 (omega arith, L .joins, L .matches),
+      λ m. let (l, x) = list-law c .0 m in record { fits = x; shortest = subst (λ (k : ℕ). LeastMatching N C s t k) (sym l) S },
+      λ L. let (d, l, x) = S .met in
+          let a = L .shortest .least d x in
+          let b = S .least c (L .fits) in
+          list-law c .1 (omega arith, L .fits),
     )

@@ -245,10 +245,13 @@ pub before-cons : (x y : ℕ) (d e : List ℕ) → Yes (before (x ∷ d) (y ∷ 
 unfolding before
 before-cons x y d e o = ⊎-elim (λ h. inl h) (λ h. let (p, q) = and-in _ _ h in inr (same-eq d e p, ltb-true x y q)) (or-in (before d e) _ o)
 
+-- what is left for a row with y and e at its end between rows with x and d, and with z and d
+abbrev pub Squeezed : ℕ → ℕ → ℕ → List ℕ → List ℕ → Type 0
+Squeezed x y z d e = (_≡_ {A = List ℕ} (x ∷ d) (y ∷ e)) ⊎ ((d ≡ e) × (x < y) × ((y < z) ⊎ (y ≡ z)))
+
 -- a row f y e that stands after h x d, and before g z d
 pub squeeze : (h f g : List ℕ) (x y z : ℕ) (d e : List ℕ) → length h ≡ length f → length f ≡ length g
-    → Yes (before (h ++ (x ∷ d)) (f ++ (y ∷ e))) → Yes (before (f ++ (y ∷ e)) (g ++ (z ∷ d)))
-    → (_≡_ {A = List ℕ} (x ∷ d) (y ∷ e)) ⊎ ((d ≡ e) × (x < y) × ((y < z) ⊎ (y ≡ z)))
+    → Yes (before (h ++ (x ∷ d)) (f ++ (y ∷ e))) → Yes (before (f ++ (y ∷ e)) (g ++ (z ∷ d))) → Squeezed x y z d e
 squeeze h f g x y z d e lh lf o p = low (before-split h f (x ∷ d) (y ∷ e) lh o)
   where
     high : (Yes (before (y ∷ e) (z ∷ d))) ⊎ ((_≡_ {A = List ℕ} (y ∷ e) (z ∷ d)) × Yes (before f g)) → (Yes (before e d)) ⊎ ((e ≡ d) × ((y < z) ⊎ (y ≡ z)))
@@ -258,7 +261,7 @@ squeeze h f g x y z d e lh lf o p = low (before-split h f (x ∷ d) (y ∷ e) lh
     up : (Yes (before e d)) ⊎ ((e ≡ d) × ((y < z) ⊎ (y ≡ z)))
     up = high (before-split f g (y ∷ e) (z ∷ d) lf p)
 
-    low : (Yes (before (x ∷ d) (y ∷ e))) ⊎ ((_≡_ {A = List ℕ} (x ∷ d) (y ∷ e)) × Yes (before h f)) → (_≡_ {A = List ℕ} (x ∷ d) (y ∷ e)) ⊎ ((d ≡ e) × (x < y) × ((y < z) ⊎ (y ≡ z)))
+    low : (Yes (before (x ∷ d) (y ∷ e))) ⊎ ((_≡_ {A = List ℕ} (x ∷ d) (y ∷ e)) × Yes (before h f)) → Squeezed x y z d e
     low (inr b) = inl (b .0)
     low (inl b) =
         ⊎-elim

@@ -14,7 +14,7 @@ use Rattle.walk.specs.declared.Status.the-variants.{Found, None, Going}
 use Rattle.walk.specs.Numbers.{_and_, pick, anyBelow}
 use Rattle.walk.specs.Network.{Network}
 use Rattle.walk.specs.Condition.{Condition, accepts}
-use Rattle.walk.specs.Walk.{Joins, Matches, LeastMatching}
+use Rattle.walk.specs.Walk.{Fits, LeastMatching}
 use Rattle.walk.specs.Area.{pairs, reach, word, pairsAt, smallest, status}
 use Rattle.walk.proofs.Numbers.{Yes, and-in, and-of, eqb-of, anyBelow-in, anyBelow-of, Least, least-is, FirstAt, first-below, clash}
 use Rattle.walk.proofs.Executable.{Sound, reach-law}
@@ -49,7 +49,7 @@ module _ (N : Network) (C : Condition) (s t : ℕ) (ok : Sound N C) where
   unfolding matched
   matched-of m q a x = anyBelow-of _ _ q (ok .accept-in q a) (and-of a x)
 
-  pub matched-law : (m : ℕ) → Yes (matched m) ↔ ((c : List ℕ) × (length c ≡ m) × (Joins N s c t × Matches N C c))
+  pub matched-law : (m : ℕ) → Yes (matched m) ↔ ((c : List ℕ) × (length c ≡ m) × Fits N C s t c)
   matched-law m = (
     λ h. let (q, a, x) = matched-in m h in let (c, l, (j, y)) = reach-law N C ok s m t q .0 x in (c, l, (j, (q, a, y))),
     λ (c, l, (j, (q, a, x))). matched-of m q a (reach-law N C ok s m t q .1 (c, l, (j, x))),

@@ -10,7 +10,7 @@ use Rattle.walk.specs.declared.Status.the-variants.{Found, None, Going}
 use Rattle.walk.specs.Ceilings.{ceilings}
 use Rattle.walk.specs.Network.{Network, usable}
 use Rattle.walk.specs.Condition.{Condition}
-use Rattle.walk.specs.Walk.{Joins, Matches, LeastReaching, LeastMatching, Listed}
+use Rattle.walk.specs.Walk.{Fits, LeastReaching, LeastMatching, Listed}
 use Rattle.walk.specs.Chains.{before}
 use Rattle.walk.specs.Question.{Question, pairs, listing}
 use Rattle.walk.specs.Refusals.{Row, number, start-tests, round-tests, first-tests, next-tests}
@@ -72,7 +72,7 @@ module _ (D : Question) where
       ⊎ ((x ≡ ceilings .unreached) × ((d : ℕ) → LeastReaching N C (D .from) v q d → n < d))
 
   abbrev pub NoMatch : Type 0
-  NoMatch = (c : List ℕ) → Joins N (D .from) c (D .to) → Matches N C c → ⊥
+  NoMatch = (c : List ℕ) → Fits N C (D .from) (D .to) c → ⊥
 
   pub record RightAfter (w : List ℕ) (n : ℕ) (S : Status) (a : List ℕ) : Type 0 where
     pub words : (v q : ℕ) → v < N .marks → q < C .states → RightWord n v q (getD a (v * C .states + q) 0)

@@ -45,12 +45,15 @@ module _ (N : Network) (C : Condition) where
   abbrev pub LeastReaching : ℕ → ℕ → ℕ → ℕ → Type 0
   LeastReaching s v q d = LeastLength (λ c. Joins N s c v × Reaches c q) d
 
+  -- the chain c goes from s to t and matches
+  abbrev pub Fits : ℕ → ℕ → List ℕ → Type 0
+  Fits s t c = Joins N s c t × Matches c
+
   -- the least length of a matching chain from s to t is d (definition 8, λ)
   abbrev pub LeastMatching : ℕ → ℕ → ℕ → Type 0
-  LeastMatching s t d = LeastLength (λ c. Joins N s c t × Matches c) d
+  LeastMatching s t d = LeastLength (Fits s t) d
 
-  -- the chain c is listed: it joins s to t, matches, and has the least length of those that do (definition 8)
+  -- the chain c is listed: it goes from s to t, matches, and has the least length of those that do (definition 8)
   pub record Listed (s t : ℕ) (c : List ℕ) : Type 0 where
-    pub joins : Joins N s c t
-    pub matches : Matches c
+    pub fits : Fits s t c
     pub shortest : LeastMatching s t (length c)
