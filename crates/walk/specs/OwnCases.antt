@@ -40,6 +40,10 @@ wide0 = 0 ∷ replicate 31 x
 abbrev wide1 : List ℕ
 wide1 = 0 ∷ replicate 30 x ++ (1 ∷ [])
 
+-- V, K and Q at their ceilings, e ties and m moves, and t not below V
+abbrev full : ℕ → ℕ → Question
+full e m = ask (net 1024 32 (replicate e 0) (replicate e 0) (replicate e 1)) (record { states = 32; start = 1; accept = 1; moves = replicate m (move 31 31 31) }) 0 1024
+
 -- each move of N's condition twice, and a tie of no kind from 0 to 3
 abbrev twice : Question
 twice =
@@ -53,22 +57,41 @@ refusal D w n p = session D w o (step start (refused n p) w o ∷ [])
 unfoldable pub own : List Session
 own =
     -- the order from the last tie
-    session crossed (0 ∷ 1 ∷ 1 ∷ 2 ∷ []) o (step (first 2) chain (0 ∷ 1 ∷ 1 ∷ 2 ∷ []) (buf 1 2) ∷ step (next 2) chain (0 ∷ 1 ∷ 1 ∷ 2 ∷ []) (buf 0 3) ∷ step (next 2) end (0 ∷ 1 ∷ 1 ∷ 2 ∷ []) (buf 0 3) ∷ [])
+    session crossed (0 ∷ 1 ∷ 1 ∷ 2 ∷ []) o (
+    step (first 2) chain (0 ∷ 1 ∷ 1 ∷ 2 ∷ []) (buf 1 2)
+    ∷ step (next 2) chain (0 ∷ 1 ∷ 1 ∷ 2 ∷ []) (buf 0 3)
+    ∷ step (next 2) end (0 ∷ 1 ∷ 1 ∷ 2 ∷ []) (buf 0 3) ∷ [])
     -- next on None is 11, first says None; both with no room for a chain
-    ∷ session (ask (netN setsN) (condN 0) 0 3) (replicate 8 x) [] (step (next 0) (refused 11 0) (replicate 8 x) [] ∷ step (first 0) none (replicate 8 x) [] ∷ [])
+    ∷ session (ask (netN setsN) (condN 0) 0 3) (replicate 8 x) [] (
+    step (next 0) (refused 11 0) (replicate 8 x) []
+    ∷ step (first 0) none (replicate 8 x) [] ∷ [])
     -- a round on a Found or None area, and the list with a count above the least length
-    ∷ session N after2 o (step (round 2) (after 2 (Found 2)) after2 o ∷ step (first 8) chain after2 (buf 0 3) ∷ step (next 5) chain after2 (buf 1 3) ∷ [])
-    ∷ session (ask (netN setsN) (condN 0) 0 3) (replicate 8 x) o (step (round 3) (after 3 None) (replicate 8 x) o ∷ [])
+    ∷ session N after2 o (
+    step (round 2) (after 2 (Found 2)) after2 o
+    ∷ step (first 8) chain after2 (buf 0 3)
+    ∷ step (next 5) chain after2 (buf 1 3) ∷ [])
+    ∷ session (ask (netN setsN) (condN 0) 0 3) (replicate 8 x) o (
+    step (round 3) (after 3 None) (replicate 8 x) o ∷ [])
     -- any listed chain handed back gets the one after it; a tie number past the table is no listed chain
-    ∷ session N after2 (buf 1 3) (step (next 2) chain after2 (buf 2 4) ∷ [])
-    ∷ session N after2 (buf 0 5) (step (next 2) (refused 11 0) after2 (buf 0 5) ∷ [])
+    ∷ session N after2 (buf 1 3) (
+    step (next 2) chain after2 (buf 2 4) ∷ [])
+    ∷ session N after2 (buf 0 5) (
+    step (next 2) (refused 11 0) after2 (buf 0 5) ∷ [])
     -- 32 kinds and 32 states
     ∷ session wide (replicate 32 7) (9 ∷ []) (
-    step start (after 0 Going) wide0 (9 ∷ []) ∷ step (round 0) (after 1 (Found 1)) wide1 (9 ∷ []) ∷ step (first 1) chain wide1 (0 ∷ []) ∷ step (next 1) end wide1 (0 ∷ []) ∷ [])
+    step start (after 0 Going) wide0 (9 ∷ [])
+    ∷ step (round 0) (after 1 (Found 1)) wide1 (9 ∷ [])
+    ∷ step (first 1) chain wide1 (0 ∷ [])
+    ∷ step (next 1) end wide1 (0 ∷ []) ∷ [])
     -- repeated moves and a tie with no kind
     ∷ session twice blank o (
-    step start (after 0 Going) after0 o ∷ step (round 0) (after 1 Going) after1 o ∷ step (round 1) (after 2 (Found 2)) after2 o
-    ∷ step (first 2) chain after2 (buf 0 4) ∷ step (next 2) chain after2 (buf 1 4) ∷ step (next 2) chain after2 (buf 2 5) ∷ step (next 2) end after2 (buf 2 5) ∷ [])
+    step start (after 0 Going) after0 o
+    ∷ step (round 0) (after 1 Going) after1 o
+    ∷ step (round 1) (after 2 (Found 2)) after2 o
+    ∷ step (first 2) chain after2 (buf 0 4)
+    ∷ step (next 2) chain after2 (buf 1 4)
+    ∷ step (next 2) chain after2 (buf 2 5)
+    ∷ step (next 2) end after2 (buf 2 5) ∷ [])
     -- each size that refusal 1 names
     ∷ refusal (sized 0 2 setsN) blank 1 0
     ∷ refusal (sized 1025 2 setsN) blank 1 0
@@ -76,7 +99,10 @@ own =
     ∷ refusal (sized 4 33 setsN) blank 1 0
     ∷ refusal (sized 4 2 (3 ∷ [])) blank 1 0
     ∷ refusal (ask (net 4 2 (0 ∷ []) [] (1 ∷ [])) (condN 1) 0 3) blank 1 0
-    -- each state that refusal 4 names
+    ∷ refusal (full 4097 0) blank 1 0
+    -- what refusal 4 names; with V, K, Q and the moves at their ceilings nothing before 6 is given
+    ∷ refusal (full 100 256) blank 6 0
+    ∷ refusal (full 0 257) blank 4 0
     ∷ refusal (tied (0 ∷ 0 ∷ 0 ∷ 1 ∷ 2 ∷ []) (1 ∷ 1 ∷ 2 ∷ 3 ∷ 3 ∷ []) 0) blank 4 0
     ∷ refusal (moved 4 2 0 3) blank 4 0
     ∷ refusal (moved 1 4 0 3) blank 4 0
@@ -88,8 +114,14 @@ own =
     ∷ refusal (moved 1 2 2 4) blank 5 1
     ∷ refusal (moved 1 2 1 4) (7 ∷ []) 6 0
     -- 7 and 8, 8 and 9, 9 and 10, 10 and 11
-    ∷ session N (7 ∷ []) o (step (round 9) (refused 7 8) (7 ∷ []) o ∷ [])
-    ∷ session N after0 [] (step (first 1) (refused 8 0) after0 [] ∷ step (next 1) (refused 8 0) after0 [] ∷ [])
-    ∷ session N after1 [] (step (first 1) (refused 9 0) after1 [] ∷ step (next 1) (refused 9 0) after1 [] ∷ [])
-    ∷ session N after2 (4 ∷ []) (step (next 2) (refused 10 2) after2 (4 ∷ []) ∷ [])
+    ∷ session N (7 ∷ []) o (
+    step (round 9) (refused 7 8) (7 ∷ []) o ∷ [])
+    ∷ session N after0 [] (
+    step (first 1) (refused 8 0) after0 []
+    ∷ step (next 1) (refused 8 0) after0 [] ∷ [])
+    ∷ session N after1 [] (
+    step (first 1) (refused 9 0) after1 []
+    ∷ step (next 1) (refused 9 0) after1 [] ∷ [])
+    ∷ session N after2 (4 ∷ []) (
+    step (next 2) (refused 10 2) after2 (4 ∷ []) ∷ [])
     ∷ []
