@@ -129,15 +129,30 @@ def some_question():
     return Question(v, k, froms, tos, sets, states, start, accept, moves, random.randrange(v), random.randrange(v))
 
 
+def put(column, value):
+    """The column with the value at some place, and as it is where it is empty."""
+    at = random.randrange(len(column) or 1)
+    return column[:at] + [value] + column[at + 1:] if column else column
+
+
 def faulty(q):
     """The question with one fault, where there is something to spoil."""
-    last = len(q.froms) - 1
     return random.choice([
-        q._replace(kinds=33),
-        q._replace(froms=q.froms[:last] + [q.marks]) if q.froms else q,
+        q._replace(marks=random.choice([0, 1025])),
+        q._replace(kinds=random.choice([0, 33])),
+        q._replace(tos=q.tos + [0]),
+        q._replace(sets=q.sets[1:]),
+        q._replace(froms=put(q.froms, q.marks)),
+        q._replace(tos=put(q.tos, q.marks)),
+        q._replace(sets=put(q.sets, 2 ** q.kinds)),
         q._replace(tos=q.tos[::-1]),
+        q._replace(states=random.choice([0, 33])),
+        q._replace(start=q.start | 1 << q.states),
         q._replace(accept=q.accept | 1 << q.states),
-        q._replace(moves=q.moves + [(0, q.kinds, 0)]),
+        q._replace(moves=put(q.moves, (q.states, 0, 0))),
+        q._replace(moves=put(q.moves, (0, q.kinds, 0))),
+        q._replace(moves=put(q.moves, (0, 0, q.states))),
+        q._replace(s=q.marks),
         q._replace(t=q.marks),
     ])
 
@@ -154,9 +169,10 @@ class Session:
 
 def whole(q):
     """Start, rounds to the finish, the first chain and the others, now and then with a larger count."""
-    session = Session(q, [7] * (q.marks * q.states + random.randint(-1, 2)), [9] * random.randint(0, 4))
+    session = Session(q, [7] * max(0, min(q.marks * q.states, 20) + random.randint(-1, 2)), [9] * random.randint(0, 4))
     answer = session.make("start")
     if answer[0] == "refused":
+        session.make(random.choice(["round", "first", "next"]), random.randint(0, 3))
         return session, 0
     while answer[2][0] == "Going":
         if random.random() < 0.1:
@@ -195,7 +211,9 @@ def sessions(count):
     while len(made_up) < count:
         q = some_question()
         if random.random() < worth(q):
-            session, rounds = whole(faulty(q) if random.random() < 0.1 else q)
+            for _ in range(random.choice([0] * 12 + [1, 2, 3])):
+                q = faulty(q)
+            session, rounds = whole(q)
             made_up.append(session)
             if rounds:
                 made_up.append(spoiled(session.q, session.area, rounds))

@@ -4,8 +4,9 @@ use Prim.Native.Nat.{ℕ, zero, suc, _+_, _*_, _/_, _%_, _≤_, _<_}
 use mathlib.Core.Path.{_≡_, refl, sym, _∙_, ap}
 use mathlib.Core.List.{List}
 use mathlib.Core.Logic.{_↔_}
-use native.Mathlib.Nat.{not-suc-le-zero, div-lt-iff-lt-mul, mod-lt, div-add-mod', mul-add-div-right, div-eq-of-lt, mul-add-mod-self-right, mod-eq-of-lt, mul-zero, add-zero, mul-le-mul-right}
+use native.Mathlib.Nat.{not-suc-le-zero, div-lt-iff-lt-mul, mod-lt, div-add-mod', mul-zero}
 use native.Mathlib.Omega.{arith}
+use lib.Arith.{digits-lt, digits-div, digits-mod}
 use lib.Dec.{leb, eqb}
 use lib.ListN.{length, getD, take}
 use lib.Seq.{ext-getD, getD-take, length-take-le}
@@ -18,15 +19,15 @@ use Rattle.walk.proofs.Numbers.{eqb-of, getD-table, length-table, table
 use Rattle.walk.proofs.Executable.{Sound, arc-in}
 use Rattle.walk.proofs.Words.{unreached, Right, comes, comes-in, comes-of, word-zero, word-suc}
 
--- ---- places: pairs of v below V and q below Q, and numbers below V×Q
+-- places: pairs of v below V and q below Q, and numbers below V×Q
 pub place-in : (m n v q : ℕ) → v < m → q < n → v * n + q < m * n
-place-in m n v q hv hq = omega (arith, mul-le-mul-right n hv)
+place-in m n v q hv hq = digits-lt hv hq
 
 pub mark-of : (n v q : ℕ) → q < n → (v * n + q) / n ≡ v
-mark-of n v q hq = mul-add-div-right (omega arith) v q ∙ ap (λ (k : ℕ). v + k) (div-eq-of-lt hq) ∙ add-zero v
+mark-of n v q hq = digits-div v hq
 
 pub state-of : (n v q : ℕ) → q < n → (v * n + q) % n ≡ q
-state-of n v q hq = mul-add-mod-self-right v n q ∙ mod-eq-of-lt hq
+state-of n v q hq = digits-mod v hq
 
 pub pair-in : (m n i : ℕ) → i < m * n → (i / n < m) × (i % n < n)
 pair-in m zero i h = absurd (not-suc-le-zero (rw mul-zero at h))
@@ -36,10 +37,6 @@ module _ (N : Network) (C : Condition) (s : ℕ) where
   pub length-area : (r : ℕ) → length (area N C s r) ≡ pairs N C
   unfolding area
   length-area r = length-table _ _
-
-  area-table : (r : ℕ) → area N C s r ≡ table (pairs N C) (λ i. word N C s r (i / C .states) (i % C .states))
-  unfolding area
-  area-table r = refl
 
   pub area-get : (r i : ℕ) → i < pairs N C → getD (area N C s r) i 0 ≡ word N C s r (i / C .states) (i % C .states)
   unfolding area
@@ -79,7 +76,7 @@ module _ (N : Network) (C : Condition) (s : ℕ) where
     λ (u, p, hu, hp, e). tally-of (eqb r) (area N C s r) (u * C .states + p) (rw (length-area r) (place-in (N .marks) (C .states) u p hu hp)) (eqb-of {m = r} (sym (area-at r u p hu hp ∙ e))),
   )
 
-  -- ---- what start and a round write
+  -- what start and a round write
   unfoldable pub begin : ℕ → ℕ
   begin i = pick (eqb s (i / C .states) and starts C (i % C .states)) 0 unreached
 
@@ -88,16 +85,16 @@ module _ (N : Network) (C : Condition) (s : ℕ) where
 
   module _ (ok : Sound N C) where
     pub begin-law : area N C s 0 ≡ table (pairs N C) begin
-    unfolding begin
-    begin-law = area-table 0 ∙ table-ext _ _ _ (λ i h. word-zero N C s ok (i / C .states) (i % C .states))
+    unfolding area begin
+    begin-law = table-ext _ _ _ (λ i h. word-zero N C s ok (i / C .states) (i % C .states))
 
     comes-same : (r v q : ℕ) → comes N C s (at (area N C s r)) r v q ≡ comes N C s (word N C s r) r v q
     comes-same r v q =
         yes-same
-        (λ t. let (u, p, x, w) = comes-in N C s (at (area N C s r)) r v q t in
+        (λ t. let (u, p, x, w) = comes-in N C s ok (at (area N C s r)) r v q t in
         let (hu, hp, _, _) = arc-in N C ok u p v q x in
         comes-of N C s ok (word N C s r) r u p v q x (sym (area-at r u p hu hp) ∙ w))
-        (λ t. let (u, p, x, w) = comes-in N C s (word N C s r) r v q t in
+        (λ t. let (u, p, x, w) = comes-in N C s ok (word N C s r) r v q t in
         let (hu, hp, _, _) = arc-in N C ok u p v q x in
         comes-of N C s ok (at (area N C s r)) r u p v q x (area-at r u p hu hp ∙ w))
 
@@ -107,4 +104,5 @@ module _ (N : Network) (C : Condition) (s : ℕ) where
 
     -- one round takes the right area for r to the right one for r + 1
     pub step-law : (r : ℕ) → suc r < unreached → area N C s (suc r) ≡ table (pairs N C) (step (area N C s r) r)
-    step-law r few = area-table (suc r) ∙ table-ext _ _ _ (λ i h. step-at r i few h)
+    unfolding area
+    step-law r few = table-ext _ _ _ (λ i h. step-at r i few h)

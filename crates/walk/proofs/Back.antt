@@ -12,6 +12,7 @@ use native.Mathlib.Nat.{add-zero, zero-add}
 use native.Mathlib.Omega.{arith}
 use lib.Dec.{leb, ltb, eqb}
 use lib.ListN.{length, length-append}
+use lib.Seq.{take-all}
 use borrow.Author.Tests.{eqb-true, ltb-true, lt-ltb}
 use Rattle.walk.specs.Numbers.{has, _and_, pick, anyBelow, least, setBelow}
 use Rattle.walk.specs.Network.{Network, ties, fromOf, toOf}
@@ -32,7 +33,16 @@ pub record Raise : Type 0 where
   pub alive : ℕ
   pub rest : List ℕ
 
--- ---- over any step back: `back e i S` are the states alive before tie e, with i ties to come before it, where S are alive after it
+-- the mark where the rest d of a chain into t begins
+abbrev pub mark : Network → ℕ → List ℕ → ℕ
+mark N t [] = t
+mark N t (e ∷ d) = fromOf N e
+
+pub joins-mark : (N : Network) (t v : ℕ) (d : List ℕ) → Joins N v d t → mark N t d ≡ v
+joins-mark N t v [] j = sym j
+joins-mark N t v (e ∷ d) j = j .1
+
+-- over any step back: `back e i S` are the states alive before tie e, with i ties to come before it, where S are alive after it
 module _ (N : Network) (back : ℕ → ℕ → ℕ → ℕ) where
   -- tie e enters the mark u, and before it a state is alive
   unfoldable pub enters : ℕ → ℕ → ℕ → ℕ → Bool
@@ -43,25 +53,21 @@ module _ (N : Network) (back : ℕ → ℕ → ℕ → ℕ) where
   lowest lo u i S = least (λ e. leb lo e and enters u i S e) (ties N)
 
   -- i ties into u before the rest d, each the smallest
-  unfoldable pub way : ℕ → ℕ → ℕ → List ℕ → List ℕ
-  way zero u S d = d
-  way (suc i) u S d = let e = lowest 0 u i S in way i (fromOf N e) (back e i S) (e ∷ d)
+  unfoldable pub fill : ℕ → ℕ → ℕ → List ℕ → List ℕ
+  fill zero u S d = d
+  fill (suc i) u S d = let e = lowest 0 u i S in fill i (fromOf N e) (back e i S) (e ∷ d)
 
-  -- way makes i ties before d
-  pub way-ends : (i u S : ℕ) (d : List ℕ) → (g : List ℕ) × (length g ≡ i) × (way i u S d ≡ g ++ d)
-  unfolding way
-  way-ends zero u S d = ([], refl, refl)
-  way-ends (suc i) u S d =
+  -- fill makes i ties before d
+  pub fill-ends : (i u S : ℕ) (d : List ℕ) → (g : List ℕ) × (length g ≡ i) × (fill i u S d ≡ g ++ d)
+  unfolding fill
+  fill-ends zero u S d = ([], refl, refl)
+  fill-ends (suc i) u S d =
       let e = lowest 0 u i S in
-      let (g, l, f) = way-ends i (fromOf N e) (back e i S) (e ∷ d) in
+      let (g, l, f) = fill-ends i (fromOf N e) (back e i S) (e ∷ d) in
       (g ++ (e ∷ []), length-append g (e ∷ []) ∙ omega arith, f ∙ sym (append-assoc g (e ∷ []) d))
 
   module _ (t S : ℕ) where
-    -- the mark where the rest d begins, and the states alive there when i ties are to come before it; S are alive at t
-    abbrev pub markAt : List ℕ → ℕ
-    markAt [] = t
-    markAt (e ∷ d) = fromOf N e
-
+    -- the states alive where the rest d begins, when i ties are to come before it; S are alive at t
     unfoldable pub setAt : ℕ → List ℕ → ℕ
     setAt i [] = S
     setAt i (e ∷ d) = back e i (setAt (suc i) d)
@@ -69,26 +75,25 @@ module _ (N : Network) (back : ℕ → ℕ → ℕ → ℕ) where
     -- at every place of d the tie joins what follows, and a state is alive
     unfoldable pub goes : ℕ → List ℕ → Bool
     goes i [] = nonempty S
-    goes i (e ∷ d) = goes (suc i) d and (ltb e (ties N) and enters (markAt d) i (setAt (suc i) d) e)
+    goes i (e ∷ d) = goes (suc i) d and (ltb e (ties N) and enters (mark N t d) i (setAt (suc i) d) e)
 
     -- the place of d nearest the front whose tie can be raised; d's first tie stands at place i
     unfoldable pub raise : ℕ → List ℕ → Option Raise
     raise i [] = none
     raise i (x ∷ d) =
-        let e = lowest (suc x) (markAt d) i (setAt (suc i) d) in
+        let e = lowest (suc x) (mark N t d) i (setAt (suc i) d) in
         pick (ltb e (ties N)) (some (record { place = i; tie = e; alive = back e i (setAt (suc i) d); rest = d })) (raise (suc i) d)
 
   -- the chain that a raised tie makes
   abbrev pub raised : Option Raise → Option (List ℕ)
   raised none = none
-  raised (some R) = some (way (R .place) (fromOf N (R .tie)) (R .alive) (R .tie ∷ R .rest))
+  raised (some R) = some (fill (R .place) (fromOf N (R .tie)) (R .alive) (R .tie ∷ R .rest))
 
 pub nil-of : (c : List ℕ) → length c ≡ 0 → c ≡ []
-nil-of [] e = refl
-nil-of (x ∷ c) e = absurd (omega arith)
+nil-of c e = sym (take-all 0 c (omega arith))
 
 module _ (N : Network) (C : Condition) (s t r : ℕ) where
-  -- THE STEP BACK over tie e: the states with the word i at its from mark from which it leads to a state of S
+  -- the step back over tie e: the states with the word i at its from mark from which it leads to a state of S
   unfoldable pub back : ℕ → ℕ → ℕ → ℕ
   back e i S = setBelow (C .states) (λ p. eqb (word N C s r (fromOf N e) p) i and anyBelow (C .states) (λ q. leads N C e p q and has S q))
 
@@ -117,9 +122,6 @@ module _ (N : Network) (C : Condition) (s t r : ℕ) where
   abbrev pub alive : ℕ → ℕ → List ℕ → ℕ
   alive n i d = setAt N back t (atEnd n) i d
 
-  abbrev pub mark : ℕ → List ℕ → ℕ
-  mark n d = markAt N back t (atEnd n) d
-
   -- some chain of length i before d makes it a matching chain
   abbrev pub Completes : ℕ → List ℕ → Type 0
   Completes i d = (c : List ℕ) × (length c ≡ i) × Fits N C s t (c ++ d)
@@ -140,7 +142,8 @@ module _ (N : Network) (C : Condition) (s t r : ℕ) where
     end-of n q w a = set-of _ _ q (ok .accept-in q a) (and-of (eqb-of {n = n} w) a)
 
     -- no set is empty by accident: a tie leads to a state that has the word i + 1 at u
-    pub fed : (u i S q : ℕ) → r < unreached → suc i ≤ r → word N C s r u q ≡ suc i → Yes (has S q) → (e : ℕ) × (e < ties N) × (toOf N e ≡ u) × Yes (nonempty (back e i S))
+    pub fed : (u i S q : ℕ) → r < unreached → suc i ≤ r → word N C s r u q ≡ suc i → Yes (has S q)
+        → (e : ℕ) × (e < ties N) × (toOf N e ≡ u) × Yes (nonempty (back e i S))
     fed u i S q few ir w h =
         let W = word-is N C s r u q few in
         let (v, p, a, y) = reach-suc N C ok s i u q (rw w at (W .met (omega arith))) in
@@ -151,10 +154,6 @@ module _ (N : Network) (C : Condition) (s t r : ℕ) where
         (a .tie, a .tie-in, a .arrives, some-of _ p (back-of (a .tie) i S p q (rw (a .leaves) z) (a .steps) h))
 
     module _ (n : ℕ) (few : r < unreached) (fits : n ≤ r) (short : LeastMatching N C s t n) where
-      pub joins-mark : (v : ℕ) (d : List ℕ) → Joins N v d t → mark n d ≡ v
-      joins-mark v [] j = sym j
-      joins-mark v (e ∷ d) j = j .1
-
       joined : (i v p : ℕ) (d : List ℕ) → Yes (reach N C s i v p) → Joins N v d t → On p d → Completes i d
       joined i v p d h j (q, a, x) =
           let (c, l, (jc, (o, st, xc))) = reach-law N C ok s i v p .0 h in
@@ -172,8 +171,9 @@ module _ (N : Network) (C : Condition) (s t r : ℕ) where
           omega arith in
           omega arith
 
-      -- THE LAW OF THE SET ALIVE: it holds exactly the states with the word i at d's mark from which d leads on
-      pub alive-law : (i : ℕ) (d : List ℕ) → i + length d ≡ n → Joins N (mark n d) d t → (p : ℕ) → Yes (has (alive n i d) p) ↔ ((word N C s r (mark n d) p ≡ i) × On p d)
+      -- the set alive holds exactly the states with the word i at d's mark from which d leads on
+      pub alive-law : (i : ℕ) (d : List ℕ) → i + length d ≡ n → Joins N (mark N t d) d t → (p : ℕ) → Yes (has (alive n i d) p)
+          ↔ ((word N C s r (mark N t d) p ≡ i) × On p d)
       unfolding setAt
       alive-law i [] z j p =
           let e : i ≡ n = sym (add-zero i) ∙ z in (
@@ -181,7 +181,7 @@ module _ (N : Network) (C : Condition) (s t r : ℕ) where
             λ (w, (q, a, x)). let f : p ≡ q = runs-nil N C p q .0 x in end-of n p (w ∙ e) (rw f a),
           )
       alive-law i (e ∷ d) z (eh, _, jd) p =
-          let m : mark n d ≡ toOf N e = joins-mark (toOf N e) d jd in
+          let m : mark N t d ≡ toOf N e = joins-mark N t (toOf N e) d jd in
           let ih = alive-law (suc i) d (omega arith) (rw m jd) in (
             λ h. let (w, (o, l, k)) = back-in e i _ p h in
                 let (_, (q, a, x)) = ih o .0 k in
@@ -198,49 +198,49 @@ module _ (N : Network) (C : Condition) (s t r : ℕ) where
       alive-small i [] = set-small _ _
       alive-small i (e ∷ d) = back-small e i _
 
-      -- THE LAW OF GOING BACK: the rest d can be completed exactly if it joins its mark to t and its set is not empty
-      pub completes-law : (i : ℕ) (d : List ℕ) → i + length d ≡ n → Completes i d ↔ (Joins N (mark n d) d t × Yes (nonempty (alive n i d)))
+      -- the rest d can be completed exactly if it joins its mark to t and its set is not empty
+      pub completes-law : (i : ℕ) (d : List ℕ) → i + length d ≡ n → Completes i d ↔ (Joins N (mark N t d) d t × Yes (nonempty (alive n i d)))
       completes-law i d z = (to, of)
         where
-          to : Completes i d → Joins N (mark n d) d t × Yes (nonempty (alive n i d))
+          to : Completes i d → Joins N (mark N t d) d t × Yes (nonempty (alive n i d))
           to (c, l, (j, (q, a, (o, st, x)))) =
               let (v, jc, jd) = joins-split N C s c d t j in
               let (p, xc, xd) = runs-split N C ok o c d q x in
-              let m = joins-mark v d jd in
+              let m = joins-mark N t v d jd in
               let w = exact i v p d z (reach-law N C ok s i v p .1 (c, l, (jc, (o, st, xc)))) jd (q, a, xd) in
-              let jm : Joins N (mark n d) d t = rw m jd in
+              let jm : Joins N (mark N t d) d t = rw m jd in
               (jm, some-of _ p (alive-law i d z jm p .1 (rw m w, (q, a, xd))))
 
-          of : Joins N (mark n d) d t × Yes (nonempty (alive n i d)) → Completes i d
+          of : Joins N (mark N t d) d t × Yes (nonempty (alive n i d)) → Completes i d
           of (j, h) =
               let (p, _, k) = in-some (C .states) (alive n i d) (alive-small i d) h in
               let (w, o) = alive-law i d z j p .0 k in
-              joined i (mark n d) p d (rw w at (word-is N C s r (mark n d) p few .met (omega arith))) j o
+              joined i (mark N t d) p d (rw w at (word-is N C s r (mark N t d) p few .met (omega arith))) j o
 
-      -- ---- the test of a chain
+      -- the test of a chain
       some-before : (e i S : ℕ) → Yes (nonempty (back e i S)) → Yes (nonempty S)
       some-before e i S h =
           let (p, _, k) = in-some (C .states) _ (back-small e i S) h in
           let (_, (q, _, x)) = back-in e i S p k in
           some-of S q x
 
-      goes-in : (i : ℕ) (d : List ℕ) → Yes (goes N back t (atEnd n) i d) → Joins N (mark n d) d t × Yes (nonempty (alive n i d))
+      goes-in : (i : ℕ) (d : List ℕ) → Yes (goes N back t (atEnd n) i d) → Joins N (mark N t d) d t × Yes (nonempty (alive n i d))
       unfolding goes setAt enters
       goes-in i [] h = (refl, h)
       goes-in i (e ∷ d) h =
           let (a, h₁) = and-in _ _ h in
           let (b, h₂) = and-in _ _ h₁ in
           let (k, x) = and-in _ _ h₂ in
-          ((ltb-true _ _ b, refl, rw (eqb-true (toOf N e) (mark n d) k) (goes-in (suc i) d a .0)), x)
+          ((ltb-true _ _ b, refl, rw (eqb-true (toOf N e) (mark N t d) k) (goes-in (suc i) d a .0)), x)
 
-      goes-of : (i : ℕ) (d : List ℕ) → Joins N (mark n d) d t → Yes (nonempty (alive n i d)) → Yes (goes N back t (atEnd n) i d)
+      goes-of : (i : ℕ) (d : List ℕ) → Joins N (mark N t d) d t → Yes (nonempty (alive n i d)) → Yes (goes N back t (atEnd n) i d)
       unfolding goes setAt enters
       goes-of i [] j h = h
       goes-of i (e ∷ d) (eh, _, jd) h =
-          let m : mark n d ≡ toOf N e = joins-mark (toOf N e) d jd in
+          let m : mark N t d ≡ toOf N e = joins-mark N t (toOf N e) d jd in
           and-of (goes-of (suc i) d (rw m jd) (some-before e i _ h)) (and-of (lt-ltb _ _ eh) (and-of (eqb-of (sym m)) h))
 
-      -- THE LAW OF THE TEST: a chain of the least length goes all the way back exactly if it is in the list
+      -- a chain of the least length goes all the fill back exactly if it is in the list
       pub goes-law : (c : List ℕ) → length c ≡ n → Yes (goes N back t (atEnd n) 0 c) ↔ List·Memᴰ c (list N C s t n)
       goes-law c l = (
         λ h. let (c′, l′, x) = completes-law 0 c (zero-add _ ∙ l) .1 (goes-in 0 c h) in

@@ -2,17 +2,18 @@
 -- a chain of n + 1 ties at its last; `leads` is one tie and one move of it.
 use Prim.Native.Nat.{ℕ, zero, suc, _+_, _<_}
 use mathlib.Core.Path.{_≡_, refl, sym, _∙_, subst}
+use mathlib.Core.Bool.{Bool}
 use mathlib.Core.List.{List, [], _∷_, _++_}
 use mathlib.Core.Logic.{_↔_}
 use native.Mathlib.Nat.{add-suc, suc-add, add-zero, zero-add}
 use lib.ListN.{length}
 use borrow.Author.Tests.{eqb-true, ltb-true, lt-ltb}
-use Rattle.walk.specs.Numbers.{has, setBelow}
+use Rattle.walk.specs.Numbers.{has, setBelow, _and_, anyBelow}
 use Rattle.walk.specs.Network.{Network, ties, fromOf, toOf, kindsOf}
 use Rattle.walk.specs.Condition.{Condition, starts, accepts, follows}
 use Rattle.walk.specs.Walk.{Joins, Label, Spells, Reaches, Fits}
-use Rattle.walk.specs.Area.{leads, reach}
-use Rattle.walk.specs.Chains.{joins, along, reached, matches}
+use Rattle.walk.specs.Area.{leads, into, reach}
+use Rattle.walk.specs.Chains.{joins, along, reached, fits}
 use Rattle.walk.proofs.Numbers.{Yes, and-in, and-of, eqb-of, anyBelow-in, anyBelow-of}
 use Rattle.walk.proofs.Sets.{set-in, set-of}
 
@@ -72,7 +73,7 @@ module _ (N : Network) (C : Condition) where
         go [] l x = absurd l
         go (k ∷ w) (h, l) (o, f, x) = (o, leads-of e p o k h f, (w, l, x))
 
-    -- ---- the set that a chain carries along
+    -- the set that a chain carries along
     along-in : (S e q : ℕ) → Yes (has (along N C S e) q) → (p : ℕ) × Yes (has S p) × Yes (leads N C e p q)
     unfolding along
     along-in S e q h = let (_, x) = set-in _ _ q h in let (p, _, y) = anyBelow-in _ _ x in let (a, b) = and-in _ _ y in (p, a, b)
@@ -98,22 +99,39 @@ module _ (N : Network) (C : Condition) where
           λ (p, a, x). L .1 (p, set-of _ _ p (ok .start-in p a) a, x),
         )
 
-    pub matches-law : (s t : ℕ) (c : List ℕ) → Yes (matches N C s t c) ↔ Fits N C s t c
-    unfolding matches
-    matches-law s t c = (
-      λ h. let (a, x) = and-in _ _ h in
-          let (q, _, y) = anyBelow-in _ _ x in
-          let (b, z) = and-in _ _ y in
-          (joins-law s c t .0 a, (q, b, reaches-law c q .0 z)),
-      λ (j, (q, b, r)). and-of (joins-law s c t .1 j) (anyBelow-of _ _ q (ok .accept-in q b) (and-of b (reaches-law c q .1 r))),
-    )
+    -- an accepting state passes X
+    pub accepted : (X : ℕ → Bool) → Yes (anyBelow (C .states) (λ q. accepts C q and X q)) ↔ ((q : ℕ) × Yes (accepts C q) × Yes (X q))
+    accepted X = (λ h. let (q, _, k) = anyBelow-in _ _ h in let (a, x) = and-in _ _ k in (q, a, x), λ (q, a, x). anyBelow-of _ _ q (ok .accept-in q a) (and-of a x))
+
+    pub fits-law : (s t : ℕ) (c : List ℕ) → Yes (fits N C s t c) ↔ Fits N C s t c
+    unfolding fits
+    fits-law s t c =
+        let A = accepted (has (reached N C (setBelow (C .states) (starts C)) c)) in (
+          λ h. let (a, x) = and-in _ _ h in let (q, b, z) = A .0 x in (joins-law s c t .0 a, (q, b, reaches-law c q .0 z)),
+          λ (j, (q, b, r)). and-of (joins-law s c t .1 j) (A .1 (q, b, reaches-law c q .1 r)),
+        )
 
     pub arc-in : (u p v q : ℕ) → Arc u p v q → (u < N .marks) × (p < C .states) × (v < N .marks) × (q < C .states)
     arc-in u p v q a =
         let (x, y) = leads-states (a .tie) p q (a .steps) in
         (rw (a .leaves) at (ok .from-in (a .tie) (a .tie-in)), x, rw (a .arrives) at (ok .to-in (a .tie) (a .tie-in)), y)
 
-    -- ---- reaching, by the last tie
+    pub into-in : (f : ℕ → ℕ → Bool) (v q : ℕ) → Yes (into N C f v q) → (u : ℕ) × (p : ℕ) × Arc u p v q × Yes (f u p)
+    unfolding into
+    into-in f v q t =
+        let (e, eh, x) = anyBelow-in _ _ t in
+        let (a, y) = and-in _ _ x in
+        let (p, _, z) = anyBelow-in _ _ y in
+        let (l, r) = and-in _ _ z in
+        (fromOf N e, p, record { tie = e; tie-in = eh; leaves = refl; arrives = eqb-true _ _ a; steps = l }, r)
+
+    pub into-of : (f : ℕ → ℕ → Bool) (u p v q : ℕ) → Arc u p v q → Yes (f u p) → Yes (into N C f v q)
+    unfolding into
+    into-of f u p v q a r =
+        anyBelow-of _ _ (a .tie) (a .tie-in)
+        (and-of (eqb-of (a .arrives)) (anyBelow-of _ _ p (leads-states (a .tie) p q (a .steps) .0) (and-of (a .steps) (rw (a .leaves) r))))
+
+    -- reaching, by the last tie
     module _ (s : ℕ) where
       pub reach-zero : (v q : ℕ) → Yes (reach N C s zero v q) ↔ ((s ≡ v) × Yes (starts C q))
       unfolding reach
@@ -121,18 +139,11 @@ module _ (N : Network) (C : Condition) where
 
       pub reach-suc : (n v q : ℕ) → Yes (reach N C s (suc n) v q) → (u : ℕ) × (p : ℕ) × Arc u p v q × Yes (reach N C s n u p)
       unfolding reach
-      reach-suc n v q t =
-          let (e, eh, x) = anyBelow-in _ _ t in
-          let (a, y) = and-in _ _ x in
-          let (p, _, z) = anyBelow-in _ _ y in
-          let (l, r) = and-in _ _ z in
-          (fromOf N e, p, record { tie = e; tie-in = eh; leaves = refl; arrives = eqb-true _ _ a; steps = l }, r)
+      reach-suc n v q t = into-in (reach N C s n) v q t
 
       pub suc-reach : (n u p v q : ℕ) → Arc u p v q → Yes (reach N C s n u p) → Yes (reach N C s (suc n) v q)
       unfolding reach
-      suc-reach n u p v q a r =
-          anyBelow-of _ _ (a .tie) (a .tie-in)
-          (and-of (eqb-of (a .arrives)) (anyBelow-of _ _ p (leads-states (a .tie) p q (a .steps) .0) (and-of (a .steps) (rw (a .leaves) r))))
+      suc-reach n u p v q a r = into-of (reach N C s n) u p v q a r
 
       -- a chain goes on from what is reached, and what is reached is the end of a chain
       on : (m u p v q : ℕ) (c : List ℕ) → Yes (reach N C s m u p) → Joins N u c v → Runs p c q → Yes (reach N C s (m + length c) v q)
@@ -142,7 +153,8 @@ module _ (N : Network) (C : Condition) where
           let a : Arc u p (toOf N e) o = record { tie = e; tie-in = eh; leaves = ef; arrives = refl; steps = l } in
           rw (add-suc, ← suc-add) (on (suc m) (toOf N e) o v q c (suc-reach m u p (toOf N e) o a r) j y)
 
-      ends : (n u p v q : ℕ) (c : List ℕ) → Yes (reach N C s n u p) → Joins N u c v → Runs p c q → (d : List ℕ) × (length d ≡ n + length c) × (Joins N s d v × Reaches N C d q)
+      ends : (n u p v q : ℕ) (c : List ℕ) → Yes (reach N C s n u p) → Joins N u c v → Runs p c q
+          → (d : List ℕ) × (length d ≡ n + length c) × (Joins N s d v × Reaches N C d q)
       ends zero u p v q c r j x = let (e, st) = reach-zero u p .0 r in (c, sym (zero-add (length c)), (rw e j, (p, st, x)))
       ends (suc n) u p v q c r j x =
           let (o, k, a, y) = reach-suc n u p r in
@@ -155,7 +167,7 @@ module _ (N : Network) (C : Condition) where
         λ (c, l, (j, (p, st, x))). subst (λ (m : ℕ). Yes (reach N C s m v q)) (zero-add (length c) ∙ l) (on zero s p v q c (reach-zero s p .1 (refl, st)) j x),
       )
 
-  -- ---- a chain in two parts
+  -- a chain in two parts
   pub joins-split : (s : ℕ) (c d : List ℕ) (t : ℕ) → Joins N s (c ++ d) t → (v : ℕ) × Joins N s c v × Joins N v d t
   joins-split s [] d t h = (s, refl, h)
   joins-split s (e ∷ c) d t (a, b, h) = let (v, x, y) = joins-split (toOf N e) c d t h in (v, (a, b, x), y)

@@ -11,7 +11,7 @@ use native.Mathlib.Nat.{eq-or-lt-of-le, add-zero}
 use native.Mathlib.Omega.{arith}
 use lib.Dec.{leb, ltb}
 use lib.ListN.{length, length-append, take, drop, getD}
-use lib.Seq.{split-at, length-take-le}
+use lib.Seq.{take-all, take-suc, split-at, length-take-le}
 use borrow.Author.Tests.{eqb-true, ltb-true, ltb-false, leb-true, le-leb}
 use Rattle.walk.specs.Numbers.{_and_, pick}
 use Rattle.walk.specs.Network.{Network, ties, toOf}
@@ -23,49 +23,40 @@ use Rattle.walk.proofs.Sets.{nonempty}
 use Rattle.walk.proofs.Executable.{Sound, joins-split}
 use Rattle.walk.proofs.Words.{unreached}
 use Rattle.walk.proofs.Order.{first-is, next-is, next-none, before-irrefl, before-asym, before-at, before-split, before-cons, Squeezed, squeeze}
-use Rattle.walk.proofs.Back.{Raise, enters, lowest, way, way-ends, markAt, setAt, raise, raised, nil-of, back, atEnd, Completes, completes-law, joins-mark}
+use Rattle.walk.proofs.Back.{Raise, enters, lowest, fill, fill-ends, mark, setAt, raise, raised, nil-of, back, atEnd, Completes, completes-law, joins-mark}
+use Rattle.walk.proofs.Back as Back
 use Rattle.walk.proofs.Listings.{list-law, list-rises}
 
 -- a row that is not empty has a last number
 last-of : (c : List ℕ) (n : ℕ) → length c ≡ suc n → (b : List ℕ) × (x : ℕ) × (c ≡ b ++ (x ∷ [])) × (length b ≡ n)
-last-of [] n e = absurd (omega arith)
-last-of (x ∷ []) n e = ([], x, refl, omega arith)
-last-of (x ∷ (y ∷ c)) zero e = absurd (omega arith)
-last-of (x ∷ (y ∷ c)) (suc n) e =
-    let (b, z, f, l) = last-of (y ∷ c) n (omega arith) in
-    (x ∷ b, z, ap {B = List ℕ} (λ k. x ∷ k) f, ap suc l)
+last-of c n e = (take n c, getD c n 0, sym (take-all (suc n) c (omega arith)) ∙ take-suc c n 0 (omega arith), length-take-le n c (omega arith))
 
 module _ (N : Network) (C : Condition) (s t r : ℕ) (ok : Sound N C) (n : ℕ) (few : r < unreached) (fits : n ≤ r) (short : LeastMatching N C s t n) where
   abbrev alive : ℕ → List ℕ → ℕ
-  alive i d = setAt N (back N C s t r) t (atEnd N C s t r n) i d
+  alive i d = Back.alive N C s t r n i d
 
-  abbrev mark : List ℕ → ℕ
-  mark d = markAt N (back N C s t r) t (atEnd N C s t r n) d
-
-  completes : (i : ℕ) (d : List ℕ) → i + length d ≡ n → Completes N C s t r i d ↔ (Joins N (mark d) d t × Yes (nonempty (alive i d)))
+  completes : (i : ℕ) (d : List ℕ) → i + length d ≡ n → Completes N C s t r i d ↔ (Joins N (mark N t d) d t × Yes (nonempty (alive i d)))
   completes i d z = completes-law N C s t r ok n few fits short i d z
 
-  joins-at : (v : ℕ) (d : List ℕ) → Joins N v d t → mark d ≡ v
-  joins-at v d j = joins-mark N C s t r ok n few fits short v d j
-
-  -- ---- the tie that is picked
+  -- the tie that is picked
   lowestAt : ℕ → ℕ → List ℕ → ℕ
-  lowestAt lo i d = lowest N (back N C s t r) lo (mark d) i (alive (suc i) d)
+  lowestAt lo i d = lowest N (back N C s t r) lo (mark N t d) i (alive (suc i) d)
 
-  picked : (lo i : ℕ) (d : List ℕ) → suc i + length d ≡ n → Joins N (mark d) d t → lowestAt lo i d < ties N → (lo ≤ lowestAt lo i d) × Completes N C s t r i (lowestAt lo i d ∷ d)
+  picked : (lo i : ℕ) (d : List ℕ) → suc i + length d ≡ n → Joins N (mark N t d) d t → lowestAt lo i d < ties N
+      → (lo ≤ lowestAt lo i d) × Completes N C s t r i (lowestAt lo i d ∷ d)
   unfolding lowestAt lowest enters setAt
   picked lo i d z j h =
       let e = lowestAt lo i d in
-      let (a, x) = and-in _ _ (least-is (λ e. leb lo e and enters N (back N C s t r) (mark d) i (alive (suc i) d) e) (ties N) .passes h) in
+      let (a, x) = and-in _ _ (least-is (λ e. leb lo e and enters N (back N C s t r) (mark N t d) i (alive (suc i) d) e) (ties N) .passes h) in
       let (b, y) = and-in _ _ x in
-      (leb-true lo e a, completes i (e ∷ d) (omega arith) .1 ((h, refl, rw (eqb-true (toOf N e) (mark d) b) j), y))
+      (leb-true lo e a, completes i (e ∷ d) (omega arith) .1 ((h, refl, rw (eqb-true (toOf N e) (mark N t d) b) j), y))
 
   none-lower : (lo i : ℕ) (d : List ℕ) → suc i + length d ≡ n → (x : ℕ) → lo ≤ x → Completes N C s t r i (x ∷ d) → x < lowestAt lo i d → ⊥
   unfolding lowestAt lowest enters setAt
   none-lower lo i d z x l k h =
       let ((_, _, j), y) = completes i (x ∷ d) (omega arith) .0 k in
-      least-is (λ e. leb lo e and enters N (back N C s t r) (mark d) i (alive (suc i) d) e) (ties N) .none-before x h
-      (and-of (le-leb lo x l) (and-of (eqb-of (sym (joins-at (toOf N x) d j))) y))
+      least-is (λ e. leb lo e and enters N (back N C s t r) (mark N t d) i (alive (suc i) d) e) (ties N) .none-before x h
+      (and-of (le-leb lo x l) (and-of (eqb-of (sym (joins-mark N t (toOf N x) d j))) y))
 
   -- c and d fit: c's last tie x, and what is left of c before it
   abbrev Peeled : ℕ → List ℕ → List ℕ → Type 0
@@ -77,20 +68,20 @@ module _ (N : Network) (C : Condition) (s t r : ℕ) (ok : Sound N C) (n : ℕ) 
       let e : c ++ d ≡ b ++ (x ∷ d) = ap (λ (k : List ℕ). k ++ d) f ∙ append-assoc b (x ∷ []) d in
       (b, x, lb, e, subst (λ (k : List ℕ). Fits N C s t k) e y)
 
-  -- ---- the smallest ties: what is made matches, and has no match before it that ends in d too
+  -- the smallest ties: what is made matches, and has no match before it that ends in d too
   abbrev pub filled : ℕ → List ℕ → List ℕ
-  filled i d = way N (back N C s t r) i (mark d) (alive i d) d
+  filled i d = fill N (back N C s t r) i (mark N t d) (alive i d) d
 
   filled-zero : (d : List ℕ) → filled zero d ≡ d
-  unfolding way
+  unfolding fill
   filled-zero d = refl
 
   filled-suc : (i : ℕ) (d : List ℕ) → filled (suc i) d ≡ filled i (lowestAt 0 i d ∷ d)
-  unfolding way setAt lowestAt
+  unfolding fill setAt lowestAt
   filled-suc i d = refl
 
   filled-ends : (i : ℕ) (d : List ℕ) → (g : List ℕ) × (length g ≡ i) × (filled i d ≡ g ++ d)
-  filled-ends i d = way-ends N (back N C s t r) i (mark d) (alive i d) d
+  filled-ends i d = fill-ends N (back N C s t r) i (mark N t d) (alive i d) d
 
   filled-fits : (i : ℕ) (d : List ℕ) → i + length d ≡ n → Completes N C s t r i d → Fits N C s t (filled i d)
   filled-fits zero d z (c, l, y) = subst (λ (k : List ℕ). Fits N C s t k) (ap (λ (k : List ℕ). k ++ d) (nil-of c l) ∙ sym (filled-zero d)) y
@@ -126,7 +117,7 @@ module _ (N : Network) (C : Condition) (s t r : ℕ) (ok : Sound N C) (n : ℕ) 
           before-asym (g ++ (e ∷ d)) (b ++ (x ∷ d)) (before-at g b e x d (lg ∙ sym lb) q) (rw h at o′))
           (eq-or-lt-of-le k)
 
-  -- THE LAW OF THE FIRST: the smallest ties all the way make the first chain of the list
+  -- the smallest ties all the fill make the first chain of the list
   pub first-law : firstOf (list N C s t n) ≡ some (filled n [])
   first-law =
       first-is _ (filled n []) (list-rises N C s t n)
@@ -139,15 +130,15 @@ module _ (N : Network) (C : Condition) (s t r : ℕ) (ok : Sound N C) (n : ℕ) 
       whole : Fits N C s t (filled n [])
       whole = let (c, l, y) = short .met in filled-fits n [] (add-zero n) (c, l, rw append-nil y)
 
-  -- ---- the chain after c
+  -- the chain after c
   module _ (c : List ℕ) (cm : List·Memᴰ c (list N C s t n)) where
     c-long : length c ≡ n
     c-long = list-law N C s t n ok c .0 cm .0
 
-    rest-joins : (h d : List ℕ) (x : ℕ) → c ≡ h ++ (x ∷ d) → Joins N (mark d) d t
+    rest-joins : (h d : List ℕ) (x : ℕ) → c ≡ h ++ (x ∷ d) → Joins N (mark N t d) d t
     rest-joins h d x e =
         let (v, _, (_, _, j)) = joins-split N C s h (x ∷ d) t (subst (λ (k : List ℕ). Joins N s k t) e (list-law N C s t n ok c .0 cm .1 .0)) in
-        rw (joins-at (toOf N x) d j) j
+        rw (joins-mark N t (toOf N x) d j) j
 
     -- no listed chain comes after c that ends in d, where d is the rest of c from place k on
     abbrev NoMore : ℕ → List ℕ → Type 0
@@ -230,6 +221,6 @@ module _ (N : Network) (C : Condition) (s t r : ℕ) (ok : Sound N C) (n : ℕ) 
             no-more b′ lb (subst (λ (i : ℕ). Fits N C s t (b′ ++ (i ∷ d))) w v′) (subst (λ (i : ℕ). Yes (before c (b′ ++ (i ∷ d)))) w (rw e′ at o)))
             (before-split h b′ (x ∷ d) (y ∷ d) (l ∙ sym lb) o′))
 
-    -- THE LAW OF THE NEXT: raising the tie nearest the front that can be raised makes the chain after c, or there is none
+    -- raising the tie nearest the front that can be raised makes the chain after c, or there is none
     pub next-law : afterOf c (list N C s t n) ≡ raised N (back N C s t r) (raiseAt 0 c)
     next-law = nexts 0 [] c refl refl (λ f l v o. before-irrefl c (subst (λ (u : List ℕ). Yes (before c (u ++ c))) (nil-of f l) o))

@@ -9,15 +9,15 @@ use lib.ListN.{length}
 use Rattle.walk.specs.Network.{Network, ties, toOf}
 use Rattle.walk.specs.Condition.{Condition}
 use Rattle.walk.specs.Walk.{Joins, Fits, LeastMatching, Listed}
-use Rattle.walk.specs.Chains.{rows, matches, list}
+use Rattle.walk.specs.Chains.{rows, fits, list}
 use Rattle.walk.specs.Demands.{Rises}
-use Rattle.walk.proofs.Executable.{Sound, matches-law}
+use Rattle.walk.proofs.Executable.{Sound, fits-law}
 use Rattle.walk.proofs.Order.{Below, mem-rows, rows-mem, rises-rows, sieve-mem, mem-sieve, rises-sieve}
 
 module _ (N : Network) (C : Condition) (s t n : ℕ) where
   pub list-rises : Rises (list N C s t n)
   unfolding list
-  list-rises = rises-sieve (matches N C s t) _ (rises-rows (ties N) n)
+  list-rises = rises-sieve (fits N C s t) _ (rises-rows (ties N) n)
 
   joins-below : (u : ℕ) (c : List ℕ) → Joins N u c t → Below (ties N) c
   joins-below u [] h = tt
@@ -27,9 +27,9 @@ module _ (N : Network) (C : Condition) (s t n : ℕ) where
     pub list-law : (c : List ℕ) → List·Memᴰ c (list N C s t n) ↔ ((length c ≡ n) × Fits N C s t c)
     unfolding list
     list-law c = (
-      λ m. let (a, b) = sieve-mem (matches N C s t) (rows (ties N) n) c m in
-          (rows-mem (ties N) n c a, matches-law N C ok s t c .0 b),
-      λ (l, x). mem-sieve (matches N C s t) (rows (ties N) n) c (rw l at (mem-rows (ties N) c (joins-below s c (x .0)))) (matches-law N C ok s t c .1 x),
+      λ m. let (a, b) = sieve-mem (fits N C s t) (rows (ties N) n) c m in
+          (rows-mem (ties N) n c a, fits-law N C ok s t c .0 b),
+      λ (l, x). mem-sieve (fits N C s t) (rows (ties N) n) c (rw l at (mem-rows (ties N) c (joins-below s c (x .0)))) (fits-law N C ok s t c .1 x),
     )
 
     -- at the least length the list holds exactly the listed chains (000, definition 8)

@@ -3,10 +3,11 @@ use Prim.Native.Nat.{ℕ}
 use mathlib.Core.Path.{_≡_, refl, subst}
 use mathlib.Core.List.{List, [], _∷_, List·Memᴰ}
 use mathlib.Core.Logic.{_↔_}
+use Rattle.walk.specs.Question.{usable}
 use Rattle.walk.specs.declared.Status.the-variants.{Found, None, Going}
-use Rattle.walk.specs.Network.{usable}
 use Rattle.walk.specs.Walk.{LeastMatching, Listed}
 use Rattle.walk.specs.Refusals.{Row, number, next-tests}
+use Rattle.walk.specs.Calls.{Progress}
 use Rattle.walk.specs.Sessions.{ways}
 use Rattle.walk.specs.Cases.{netN, setsN, condN, N, blank, after2, lone, lone0, buf}
 use Rattle.walk.specs.Demands.{FirstGiven, Made, begun, again, NoMatch, RightAfter, Counted, Lists}
@@ -18,8 +19,11 @@ use Rattle.walk.proofs.CountRule.{count-rule}
 use Rattle.walk.proofs.Demand3.{demand-3}
 
 -- start and two rounds
-made : Made N blank 2 2 (Found 2) after2
-made = again (again (begun (claims .started)) (claims .once)) (claims .twice)
+abbrev found2 : Progress
+found2 = record { done = 2; status = Found 2 }
+
+made : Made N blank 2 found2 after2
+made = again (again (begun (claims .started)) refl (claims .once)) refl (claims .twice)
 
 finished : Found 2 ≡ Going → ⊥
 finished e = clash cc
@@ -29,31 +33,34 @@ pub refused-11 : (x : Row) × FirstGiven (next-tests N 2 after2 (buf 0 4)) x × 
 refused-11 = demand-1 N 2 after2 (buf 0 4) .of-next .exactly 11 0 .0 (claims .refused)
 
 -- demand 2: the area of two rounds is right, so the least length from 0 to mark 3 and state 1 is 2; and the least length of a match is 2
-prepared : RightAfter N blank 2 (Found 2) after2
-prepared = demand-2 N blank .right 2 2 (Found 2) after2 made
+prepared : RightAfter N blank 2 found2 after2
+prepared = demand-2 N blank .right 2 found2 after2 made
 
-pub least-length : LeastMatching (usable (netN setsN)) (condN 1) 0 3 2
+pub least-length : LeastMatching (usable N) (condN 1) 0 3 2
 least-length = prepared .found finished 2 .0 refl
 
-pub counted : Counted N 2 2 (Found 2)
-counted = count-rule N blank 2 2 (Found 2) after2 made
+pub counted : Counted N 2 found2
+counted = count-rule N blank 2 found2 after2 made
 
 -- from 3 to 3 it says None after one round: no chain matches, and the count is 1 more than the greatest least length
-lone-made : Made lone blank 1 1 None lone0
-lone-made = again (begun (claims .lone-started)) (claims .lone-once)
+abbrev none1 : Progress
+none1 = record { done = 1; status = None }
+
+lone-made : Made lone blank 1 none1 lone0
+lone-made = again (begun (claims .lone-started)) refl (claims .lone-once)
 
 pub no-chain : NoMatch lone
-no-chain = demand-2 lone blank .right 1 1 None lone0 lone-made .none (λ e. clash cc) .0 refl
+no-chain = demand-2 lone blank .right 1 none1 lone0 lone-made .none (λ e. clash cc) .0 refl
 
-pub lone-counted : Counted lone 1 1 None
-lone-counted = count-rule lone blank 1 1 None lone0 lone-made
+pub lone-counted : Counted lone 1 none1
+lone-counted = count-rule lone blank 1 none1 lone0 lone-made
 
 -- demand 3: first and next give the list, and the list is these three chains, which are exactly the listed ones
 pub lists : Lists N 2 after2 2
-lists = demand-3 N blank 2 2 2 after2 made
+lists = demand-3 N .found 2 found2 after2 (prepared .idle finished) refl
 
-pub three-chains : (c : List ℕ) → List·Memᴰ c ((0 ∷ 3 ∷ []) ∷ (1 ∷ 3 ∷ []) ∷ (2 ∷ 4 ∷ []) ∷ []) ↔ Listed (usable (netN setsN)) (condN 1) 0 3 c
-three-chains c = subst (λ (l : List (List ℕ)). List·Memᴰ c l ↔ Listed (usable (netN setsN)) (condN 1) 0 3 c) (claims .listed) (lists .all c)
+pub three-chains : (c : List ℕ) → List·Memᴰ c ((0 ∷ 3 ∷ []) ∷ (1 ∷ 3 ∷ []) ∷ (2 ∷ 4 ∷ []) ∷ []) ↔ Listed (usable N) (condN 1) 0 3 c
+three-chains c = subst (λ (l : List (List ℕ)). List·Memᴰ c l ↔ Listed (usable N) (condN 1) 0 3 c) (claims .listed) (lists .all c)
 
 -- chain 0 3 can be met in four ways and stands once
 pub stands-once : (ways (netN setsN) (condN 1) (0 ∷ 3 ∷ []) ≡ 4) × (List·Memᴰ {A = List ℕ} (0 ∷ 3 ∷ []) ((1 ∷ 3 ∷ []) ∷ (2 ∷ 4 ∷ []) ∷ []) → ⊥)

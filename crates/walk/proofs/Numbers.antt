@@ -4,6 +4,7 @@ use Prim.Native.Nat.{ℕ, zero, suc, _+_, _≤_, _<_, zero-le, suc-le-suc}
 use mathlib.Core.Path.{_≡_, refl, sym, subst, ap, ap₂, _∙_}
 use mathlib.Core.Bool.{Bool, true, false, _||_, false≢true}
 use mathlib.Core.List.{List, [], _∷_}
+use mathlib.Mathlib.Data.Bool.Basic.{or-inl, or-inr}
 use mathlib.Core.Logic.{_⊎_, inl, inr, ⊎-elim}
 use lib.ListN.{length, getD}
 use native.Mathlib.Nat.{not-suc-le-zero, le-of-suc-le-suc, eq-or-lt-of-le, lt-suc-self}
@@ -32,14 +33,6 @@ pub or-in : (a b : Bool) → Yes (a || b) → Yes a ⊎ Yes b
 or-in true b t = inl refl
 or-in false b t = inr t
 
-pub or-left : (a b : Bool) → Yes a → Yes (a || b)
-or-left true b t = refl
-or-left false b t = absurd (false≢true t)
-
-pub or-right : (a b : Bool) → Yes b → Yes (a || b)
-or-right true b t = refl
-or-right false b t = t
-
 pub eqb-of : {m n : ℕ} → m ≡ n → Yes (eqb m n)
 eqb-of {m} {n} e = eq-eqb m n e
 
@@ -53,7 +46,7 @@ pub anyBelow-of : (n : ℕ) (p : ℕ → Bool) (i : ℕ) → i < n → Yes (p i)
 unfolding anyBelow
 anyBelow-of zero p i h t = absurd (not-suc-le-zero h)
 anyBelow-of (suc n) p i h t =
-    ⊎-elim (λ e. or-left (p n) (anyBelow n p) (subst (λ (k : ℕ). Yes (p k)) e t)) (λ l. or-right (p n) (anyBelow n p) (anyBelow-of n p i l t)) (eq-or-lt-of-le (le-of-suc-le-suc h))
+    ⊎-elim (λ e. or-inl (p n) (anyBelow n p) (subst (λ (k : ℕ). Yes (p k)) e t)) (λ l. or-inr (p n) (anyBelow n p) (anyBelow-of n p i l t)) (eq-or-lt-of-le (le-of-suc-le-suc h))
 
 -- the least number: it is at most b, it passes if it is below b, and none before it passes
 pub record Least (p : ℕ → Bool) (b k : ℕ) : Type 0 where
@@ -66,7 +59,8 @@ unfolding least
 least-is p zero = record { within = zero-le; passes = λ h. absurd (not-suc-le-zero h); none-before = λ m h. absurd (not-suc-le-zero h) }
 least-is p (suc b) = go (p zero) refl (least-is (λ n. p (suc n)) b)
   where
-    go : (t : Bool) → p zero ≡ t → Least (λ n. p (suc n)) b (least (λ n. p (suc n)) b) → Least p (suc b) (elim t [ true ↦ zero | false ↦ suc (least (λ n. p (suc n)) b) ])
+    go : (t : Bool) → p zero ≡ t → Least (λ n. p (suc n)) b (least (λ n. p (suc n)) b)
+        → Least p (suc b) (elim t [ true ↦ zero | false ↦ suc (least (λ n. p (suc n)) b) ])
     go true e r = record { within = zero-le; passes = λ h. e; none-before = λ m h. absurd (not-suc-le-zero h) }
     go false e r = record { within = suc-le-suc (r .within); passes = λ h. r .passes (le-of-suc-le-suc h); none-before = nb }
       where
@@ -113,7 +107,7 @@ yes-same {a = true} {b} f g = sym (f refl)
 yes-same {a = false} {b = true} f g = g refl
 yes-same {a = false} {b = false} f g = refl
 
--- ---- equal lists
+-- equal lists
 pub same-refl : (c : List ℕ) → Yes (same c c)
 unfolding same
 same-refl [] = refl
@@ -129,13 +123,14 @@ same-eq (x ∷ xs) (y ∷ ys) t = let (a, b) = and-in _ _ t in ap₂ _∷_ (eqb-
 pub same-of : {c d : List ℕ} → c ≡ d → Yes (same c d)
 same-of {c} e = rw (← e) (same-refl c)
 
--- ---- a tally is above 0 exactly where a number of the list passes
+-- a tally is above 0 exactly where a number of the list passes
 pub tally-in : (p : ℕ → Bool) (l : List ℕ) → 0 < tally p l → (i : ℕ) × (i < length l) × Yes (p (getD l i 0))
 unfolding tally
 tally-in p [] h = absurd (not-suc-le-zero h)
 tally-in p (x ∷ xs) h = go (p x) refl h (λ k. tally-in p xs k)
   where
-    go : (t : Bool) → p x ≡ t → 0 < pick t 1 0 + tally p xs → (0 < tally p xs → (i : ℕ) × (i < length xs) × Yes (p (getD xs i 0))) → (i : ℕ) × (i < suc (length xs)) × Yes (p (getD (x ∷ xs) i 0))
+    go : (t : Bool) → p x ≡ t → 0 < pick t 1 0 + tally p xs → (0 < tally p xs → (i : ℕ) × (i < length xs) × Yes (p (getD xs i 0)))
+        → (i : ℕ) × (i < suc (length xs)) × Yes (p (getD (x ∷ xs) i 0))
     go true e h ih = (0, omega arith, e)
     go false e h ih = let (i, l, t) = ih (omega arith) in (suc i, omega arith, t)
 

@@ -1,21 +1,23 @@
 -- The order of chains, and lists that rise in it. All rows of a length rise, so what is sieved from them does, and in such a list the row after c
 -- is the one that comes after c with none between.
 use Prim.Native.Nat.{ℕ, zero, suc, _<_}
-use mathlib.Core.Path.{_≡_, refl, sym, _∙_, ap, ap₂}
+use mathlib.Core.Path.{_≡_, refl, sym, _∙_, ap}
 use mathlib.Core.Bool.{Bool, true, false, false≢true}
-use mathlib.Core.List.{List, [], _∷_, _++_, map, head-eq-of-cons-eq, tail-eq-of-cons-eq, List·Memᴰ, List·Memᴰ·head, List·Memᴰ·tail, List·Memᴰ·not-nil, List·Memᴰ·cases-cons, List·Memᴰ·append-cases, Memᴰ·append-left, Memᴰ·append-right}
+use mathlib.Core.List.{List, [], _∷_, _++_, flatMap, head-eq-of-cons-eq, tail-eq-of-cons-eq, List·Memᴰ, List·Memᴰ·head, List·Memᴰ·tail, List·Memᴰ·not-nil, List·Memᴰ·cases-cons, List·Memᴰ·eq-of-singleton, List·Memᴰ·append-cases, Memᴰ·append-left, Memᴰ·append-right}
 use mathlib.Core.Option.{none, some}
+use mathlib.Mathlib.Data.Bool.Basic.{or-inl, or-inr, bool-eq-false}
 use mathlib.Core.Logic.{_↔_, _⊎_, inl, inr, ⊎-elim}
 use native.Mathlib.Nat.{not-suc-le-zero, le-of-suc-le-suc}
 use native.Mathlib.Omega.{arith}
-use lib.ListN.{length}
+use lib.ListN.{length, take, drop}
+use lib.Seq.{take-at, drop-at}
 use borrow.Author.Tests.{ltb-true, lt-ltb}
 use Rattle.walk.specs.Numbers.{pick, table, same}
-use Rattle.walk.specs.Chains.{before, joined, rows, sieve, member, firstOf, afterOf}
+use Rattle.walk.specs.Chains.{before, rows, sieve, member, firstOf, afterOf}
 use Rattle.walk.specs.Demands.{Rises}
-use Rattle.walk.proofs.Numbers.{Yes, and-in, and-of, or-in, or-left, or-right, same-refl, same-eq, same-of}
+use Rattle.walk.proofs.Numbers.{Yes, and-in, and-of, or-in, same-refl, same-eq, same-of}
 
--- ---- the order
+-- the order
 pub before-irrefl : (c : List ℕ) → Yes (before c c) → ⊥
 unfolding before
 before-irrefl [] t = false≢true t
@@ -35,7 +37,7 @@ before-asym (x ∷ xs) (y ∷ ys) t u =
     (or-in (before ys xs) _ u))
     (or-in (before xs ys) _ t)
 
--- ---- lists that rise
+-- lists that rise
 rises-append : (xs ys : List (List ℕ)) → Rises xs → Rises ys → ((x y : List ℕ) → List·Memᴰ x xs → List·Memᴰ y ys → Yes (before x y)) → Rises (xs ++ ys)
 rises-append [] ys a b h = b
 rises-append (x ∷ xs) ys a b h =
@@ -59,7 +61,7 @@ rises-table zero f h = tt
 rises-table (suc n) f h =
     (λ y m. let (i, _, e) = table-mem n (λ j. f (suc j)) y m in rw e (h 0 (suc i) (omega arith)), rises-table n (λ j. f (suc j)) (λ i j l. h (suc i) (suc j) (omega arith)))
 
--- ---- all rows
+-- all rows
 module _ (b : ℕ) where
   -- each first number before the row c
   abbrev heads : List ℕ → List (List ℕ)
@@ -70,31 +72,31 @@ module _ (b : ℕ) where
 
   rises-heads : (c : List ℕ) → Rises (heads c)
   unfolding before
-  rises-heads c = rises-table b _ (λ i j l. or-right (before c c) _ (and-of (same-refl c) (lt-ltb i j l)))
+  rises-heads c = rises-table b _ (λ i j l. or-inr (before c c) _ (and-of (same-refl c) (lt-ltb i j l)))
 
-  all-mem : (l : List (List ℕ)) (y : List ℕ) → List·Memᴰ y (joined (map heads l)) → (c : List ℕ) × List·Memᴰ c l × List·Memᴰ y (heads c)
-  unfolding joined
+  all-mem : (l : List (List ℕ)) (y : List ℕ) → List·Memᴰ y (flatMap heads l) → (c : List ℕ) × List·Memᴰ c l × List·Memᴰ y (heads c)
+  unfolding flatMap
   all-mem [] y m = absurd (List·Memᴰ·not-nil m)
   all-mem (x ∷ xs) y m =
       ⊎-elim (λ k. (x, List·Memᴰ·head refl, k)) (λ k. let (c, h, i) = all-mem xs y k in (c, List·Memᴰ·tail h, i)) (List·Memᴰ·append-cases (heads x) m)
 
-  mem-all : (l : List (List ℕ)) (c y : List ℕ) → List·Memᴰ c l → List·Memᴰ y (heads c) → List·Memᴰ y (joined (map heads l))
-  unfolding joined
+  mem-all : (l : List (List ℕ)) (c y : List ℕ) → List·Memᴰ c l → List·Memᴰ y (heads c) → List·Memᴰ y (flatMap heads l)
+  unfolding flatMap
   mem-all [] c y m k = absurd (List·Memᴰ·not-nil m)
   mem-all (x ∷ xs) c y m k =
       ⊎-elim (λ e. Memᴰ·append-left _ (rw e at k)) (λ h. Memᴰ·append-right (heads x) (mem-all xs c y h k)) (List·Memᴰ·cases-cons m)
 
-  rises-all : (l : List (List ℕ)) → Rises l → Rises (joined (map heads l))
-  unfolding joined before
+  rises-all : (l : List (List ℕ)) → Rises l → Rises (flatMap heads l)
+  unfolding flatMap before
   rises-all [] h = tt
   rises-all (x ∷ xs) h = rises-append (heads x) _ (rises-heads x) (rises-all xs (h .1)) cross
     where
-      cross : (c d : List ℕ) → List·Memᴰ c (heads x) → List·Memᴰ d (joined (map heads xs)) → Yes (before c d)
+      cross : (c d : List ℕ) → List·Memᴰ c (heads x) → List·Memᴰ d (flatMap heads xs) → Yes (before c d)
       cross c d m k =
           let (e, _, ce) = heads-mem x c m in
           let (y, ym, yk) = all-mem xs d k in
           let (f, _, de) = heads-mem y d yk in
-          rw (ce, de) (or-left (before x y) _ (h .0 y ym))
+          rw (ce, de) (or-inl (before x y) _ (h .0 y ym))
 
   pub rises-rows : (n : ℕ) → Rises (rows b n)
   unfolding rows
@@ -113,20 +115,21 @@ module _ (b : ℕ) where
 
   pub rows-mem : (n : ℕ) (c : List ℕ) → List·Memᴰ c (rows b n) → length c ≡ n
   unfolding rows
-  rows-mem zero c m = ⊎-elim (λ e. ap length e) (λ k. absurd (List·Memᴰ·not-nil k)) (List·Memᴰ·cases-cons m)
+  rows-mem zero c m = ap length (List·Memᴰ·eq-of-singleton m)
   rows-mem (suc n) c m =
       let (d, dm, dk) = all-mem (rows b n) c m in
       let (e, _, ce) = heads-mem d c dk in
       ap length ce ∙ ap suc (rows-mem n d dm)
 
--- ---- those that pass
+-- those that pass
 module _ (p : List ℕ → Bool) where
   pub sieve-mem : (l : List (List ℕ)) (y : List ℕ) → List·Memᴰ y (sieve p l) → List·Memᴰ y l × Yes (p y)
   unfolding sieve
   sieve-mem [] y m = absurd (List·Memᴰ·not-nil m)
   sieve-mem (x ∷ xs) y m = go (p x) refl m (λ k. sieve-mem xs y k)
     where
-      go : (t : Bool) → p x ≡ t → List·Memᴰ y (pick t (x ∷ sieve p xs) (sieve p xs)) → (List·Memᴰ y (sieve p xs) → List·Memᴰ y xs × Yes (p y)) → List·Memᴰ y (x ∷ xs) × Yes (p y)
+      go : (t : Bool) → p x ≡ t → List·Memᴰ y (pick t (x ∷ sieve p xs) (sieve p xs)) → (List·Memᴰ y (sieve p xs) → List·Memᴰ y xs × Yes (p y))
+          → List·Memᴰ y (x ∷ xs) × Yes (p y)
       go true e m ih = ⊎-elim (λ k. (List·Memᴰ·head k, rw k e)) (λ k. (List·Memᴰ·tail (ih k .0), ih k .1)) (List·Memᴰ·cases-cons m)
       go false e m ih = (List·Memᴰ·tail (ih m .0), ih m .1)
 
@@ -150,7 +153,7 @@ module _ (p : List ℕ → Bool) where
       go true s = (λ y m. h .0 y (sieve-mem xs y m .0), s)
       go false s = s
 
--- ---- the first and the next of a sorted list
+-- the first and the next of a sorted list
 pub first-is : (l : List (List ℕ)) (c : List ℕ) → Rises l → List·Memᴰ c l → ((d : List ℕ) → List·Memᴰ d l → Yes (before d c) → ⊥) → firstOf l ≡ some c
 unfolding firstOf
 first-is [] c h m n = absurd (List·Memᴰ·not-nil m)
@@ -158,11 +161,7 @@ first-is (x ∷ xs) c h m n = ⊎-elim (λ e. ap some (sym e)) (λ k. absurd (n 
 
 after-step : (c x : List ℕ) (xs : List (List ℕ)) → ¬ (x ≡ c) → afterOf c (x ∷ xs) ≡ afterOf c xs
 unfolding afterOf
-after-step c x xs n = go (same x c) refl
-  where
-    go : (t : Bool) → same x c ≡ t → pick t (firstOf xs) (afterOf c xs) ≡ afterOf c xs
-    go true e = absurd (n (same-eq x c e))
-    go false e = refl
+after-step c x xs n = rw (bool-eq-false (λ e. n (same-eq x c e)))
 
 after-here : (c : List ℕ) (xs : List (List ℕ)) → afterOf c (c ∷ xs) ≡ firstOf xs
 unfolding afterOf
@@ -179,7 +178,8 @@ pub after-split : (xs : List (List ℕ)) (c : List ℕ) (ys : List (List ℕ)) �
 after-split [] c ys h = after-here c ys
 after-split (x ∷ xs) c ys h = after-step c x (xs ++ (c ∷ ys)) (λ e. stands-once (x ∷ xs) c ys h .0 (List·Memᴰ·head (sym e))) ∙ after-split xs c ys (h .1)
 
-pub next-is : (l : List (List ℕ)) (c d : List ℕ) → Rises l → List·Memᴰ c l → List·Memᴰ d l → Yes (before c d) → ((x : List ℕ) → List·Memᴰ x l → Yes (before c x) → Yes (before x d) → ⊥) → afterOf c l ≡ some d
+pub next-is : (l : List (List ℕ)) (c d : List ℕ) → Rises l → List·Memᴰ c l → List·Memᴰ d l → Yes (before c d)
+    → ((x : List ℕ) → List·Memᴰ x l → Yes (before c x) → Yes (before x d) → ⊥) → afterOf c l ≡ some d
 next-is [] c d h m k b n = absurd (List·Memᴰ·not-nil m)
 next-is (x ∷ xs) c d h m k b n = go (List·Memᴰ·cases-cons m) (List·Memᴰ·cases-cons k) (λ i j. next-is xs c d (h .1) i j b (λ y ym. n y (List·Memᴰ·tail ym)))
   where
@@ -202,30 +202,28 @@ next-none (x ∷ xs) c h m n = go (List·Memᴰ·cases-cons m) (λ i. next-none 
     go (inl e) ih = rw e (after-here x xs ∙ empty xs (λ y ym. n y (List·Memᴰ·tail ym) (rw e (h .0 y ym))))
     go (inr e) ih = after-step c x xs (λ g. before-irrefl c (rw g at (h .0 c e))) ∙ ih e
 
--- ---- the test for a row of a list
+-- the test for a row of a list
 pub member-law : (c : List ℕ) (l : List (List ℕ)) → Yes (member c l) ↔ List·Memᴰ c l
 unfolding member
 member-law c [] = (λ h. absurd (false≢true h), λ m. absurd (List·Memᴰ·not-nil m))
 member-law c (x ∷ xs) = (
   λ h. ⊎-elim (λ k. List·Memᴰ·head (sym (same-eq x c k))) (λ k. List·Memᴰ·tail (member-law c xs .0 k)) (or-in (same x c) _ h),
-  λ m. ⊎-elim (λ e. or-left (same x c) _ (same-of (sym e))) (λ k. or-right (same x c) _ (member-law c xs .1 k)) (List·Memᴰ·cases-cons m),
+  λ m. ⊎-elim (λ e. or-inl (same x c) _ (same-of (sym e))) (λ k. or-inr (same x c) _ (member-law c xs .1 k)) (List·Memᴰ·cases-cons m),
 )
 
--- ---- the order at a place: with one end d, the smaller number before it comes first
+-- the order at a place: with one end d, the smaller number before it comes first
 pub before-at : (g h : List ℕ) (x y : ℕ) (d : List ℕ) → length g ≡ length h → x < y → Yes (before (g ++ (x ∷ d)) (h ++ (y ∷ d)))
 unfolding before
-before-at [] [] x y d e l = or-right (before d d) _ (and-of (same-refl d) (lt-ltb x y l))
+before-at [] [] x y d e l = or-inr (before d d) _ (and-of (same-refl d) (lt-ltb x y l))
 before-at [] (b ∷ h) x y d e l = absurd (omega arith)
 before-at (a ∷ g) [] x y d e l = absurd (omega arith)
-before-at (a ∷ g) (b ∷ h) x y d e l = or-left (before (g ++ (x ∷ d)) (h ++ (y ∷ d))) _ (before-at g h x y d (omega arith) l)
+before-at (a ∷ g) (b ∷ h) x y d e l = or-inl (before (g ++ (x ∷ d)) (h ++ (y ∷ d))) _ (before-at g h x y d (omega arith) l)
 
 append-inj : (h f u v : List ℕ) → length h ≡ length f → h ++ u ≡ f ++ v → (h ≡ f) × (u ≡ v)
-append-inj [] [] u v l e = (refl, e)
-append-inj [] (b ∷ f) u v l e = absurd (omega arith)
-append-inj (a ∷ h) [] u v l e = absurd (omega arith)
-append-inj (a ∷ h) (b ∷ f) u v l e =
-    let (x, y) = append-inj h f u v (omega arith) (tail-eq-of-cons-eq e) in
-    (ap₂ _∷_ (head-eq-of-cons-eq e) x, y)
+append-inj h f u v l e = (
+  sym (take-at h u _ l) ∙ ap (take (length f)) e ∙ take-at f v _ refl,
+  sym (drop-at h u _ l) ∙ ap (drop (length f)) e ∙ drop-at f v _ refl,
+)
 
 -- the ends decide, and where they are equal the beginnings
 pub before-split : (h f u v : List ℕ) → length h ≡ length f → Yes (before (h ++ u) (f ++ v)) → Yes (before u v) ⊎ ((u ≡ v) × Yes (before h f))
@@ -235,10 +233,10 @@ before-split [] (b ∷ f) u v l o = absurd (omega arith)
 before-split (a ∷ h) [] u v l o = absurd (omega arith)
 before-split (a ∷ h) (b ∷ f) u v l o =
     ⊎-elim
-    (λ k. ⊎-elim (λ m. inl m) (λ m. inr (m .0, or-left (before h f) _ (m .1))) (before-split h f u v (omega arith) k))
+    (λ k. ⊎-elim (λ m. inl m) (λ m. inr (m .0, or-inl (before h f) _ (m .1))) (before-split h f u v (omega arith) k))
     (λ k. let (p, q) = and-in _ _ k in
     let (x, y) = append-inj h f u v (omega arith) (same-eq (h ++ u) (f ++ v) p) in
-    inr (y, or-right (before h f) _ (and-of (same-of x) q)))
+    inr (y, or-inr (before h f) _ (and-of (same-of x) q)))
     (or-in (before (h ++ u) (f ++ v)) _ o)
 
 pub before-cons : (x y : ℕ) (d e : List ℕ) → Yes (before (x ∷ d) (y ∷ e)) → Yes (before d e) ⊎ ((d ≡ e) × (x < y))

@@ -1,32 +1,33 @@
 -- The table of refusals: the first row of a call's list that is given answers, with its number and place; where none is given the call does its
--- work, and what the rows test then holds.
-use Prim.Native.Nat.{ℕ, _^_, _≤_, _<_}
-use mathlib.Core.Path.{_≡_, refl, _∙_, ap}
-use mathlib.Core.Bool.{Bool, true, false, not}
-use mathlib.Core.List.{List, [], _∷_, _++_, List·Memᴰ·head, List·Memᴰ·tail, List·Memᴰ·not-nil, List·Memᴰ·cases-cons, List·Memᴰ·append-cases, Memᴰ·append-left, Memᴰ·append-right}
+-- work. Each row is given exactly when the table says, so an accepted question is one that refusals 1 to 6 have no reason for.
+use Prim.Native.Nat.{ℕ, zero, suc, _+_, _-_, _≤_, _<_}
+use mathlib.Core.Path.{_≡_, refl, sym, _∙_, ap}
+use mathlib.Core.Bool.{Bool, true, false, false≢true, not}
+use mathlib.Mathlib.Data.Bool.Basic.{bool-eq-false}
+use mathlib.Core.List.{List, [], _∷_, _++_, List·Memᴰ·head, List·Memᴰ·tail, List·Memᴰ·not-nil, List·Memᴰ·cases-cons, List·Memᴰ·append-cases, List·Memᴰ·eq-of-singleton, Memᴰ·append-left, Memᴰ·append-right}
 use mathlib.Core.Logic.{_↔_, _⊎_, inl, inr, ⊎-elim}
-use native.Mathlib.Nat.{mul-le-mul}
+use native.Mathlib.Nat.{mul-le-mul, le-of-eq, le-trans, add-zero, add-suc, add-sub-of-le}
 use native.Mathlib.Omega.{arith}
 use lib.Dec.{ltb}
 use lib.ListN.{length, take, List·getD-eq-default}
-use borrow.Author.Tests.{eqb-true, ltb-true, ltb-false, le-ltb, leb-true, le-leb, not-false}
+use borrow.Author.Tests.{eqb-true, ltb-true, ltb-false, lt-ltb, le-ltb, leb-true, le-leb, not-false}
 use Rattle.walk.specs.declared.Refusal.{Refusal}
-use Rattle.walk.specs.declared.Refusal.the-variants.{BadTie, BadMove}
+use Rattle.walk.specs.declared.Refusal.the-variants.{BadTie, TieOrder, BadMove}
 use Rattle.walk.specs.Ceilings.{ceilings}
-use Rattle.walk.specs.Numbers.{has, least, onlyBelow}
-use Rattle.walk.specs.Network.{Network, ties, fromOf, toOf, kindsOf, usable}
+use Rattle.walk.specs.Numbers.{has, _and_, least, onlyBelow}
+use Rattle.walk.specs.Network.{Network, ties, fromOf, toOf, kindsOf}
 use Rattle.walk.specs.Condition.{Condition, moveAt, starts, accepts, follows}
-use Rattle.walk.specs.Question.{Question, pairs, right}
-use Rattle.walk.specs.Refusals.{Row, atFirst, number, sizes, badTie, badCondition, badMove, badEnds, shortArea, wrongArea, lent-tests, start-tests, round-tests}
+use Rattle.walk.specs.Question.{Question, pairs, right, usable}
+use Rattle.walk.specs.Refusals.{Row, atFirst, number, sizes, badTie, tieOrder, badCondition, badMove, badEnds, shortArea, wrongArea, lent-tests, start-tests, round-tests}
 use Rattle.walk.specs.Calls.{refused, Done, judged}
-use Rattle.walk.specs.Demands.{NoneGiven, FirstGiven}
-use Rattle.walk.proofs.Numbers.{Yes, and-in, and-of, anyBelow-in, least-is, same-eq, same-of}
-use Rattle.walk.proofs.Sets.{zero-has, has-below}
+use Rattle.walk.specs.Demands.{NoneGiven, FirstGiven, Accepted}
+use Rattle.walk.proofs.Numbers.{Yes, and-in, and-of, eqb-of, anyBelow-in, least-is, same-eq, same-of}
+use Rattle.walk.proofs.Sets.{zero-has, has-below, below-has}
 use Rattle.walk.proofs.Executable.{Sound}
 use Rattle.walk.proofs.Words.{Local, local-law}
 use Rattle.walk.proofs.Areas.{at, area-right}
 
--- ---- which row answers
+-- which row answers
 none-cons : (x : Row) (l : List Row) → x .given ≡ false → NoneGiven l → NoneGiven (x ∷ l)
 none-cons x l e h y m = ⊎-elim (λ f. ap (λ (z : Row). z .given) f ∙ e) (λ k. h y k) (List·Memᴰ·cases-cons m)
 
@@ -37,7 +38,7 @@ none-append l k = (
 )
 
 pub none-one : (x : Row) → NoneGiven (x ∷ []) ↔ (x .given ≡ false)
-none-one x = (λ h. h x (List·Memᴰ·head refl), λ e. none-cons x [] e (λ y m. absurd (List·Memᴰ·not-nil m)))
+none-one x = (λ h. h x (List·Memᴰ·head refl), λ e y m. ap (λ (z : Row). z .given) (List·Memᴰ·eq-of-singleton m) ∙ e)
 
 pub first-or-none : (l : List Row) → NoneGiven l ⊎ ((x : Row) × FirstGiven l x)
 first-or-none [] = inl (λ x m. absurd (List·Memᴰ·not-nil m))
@@ -46,9 +47,18 @@ first-or-none (x ∷ l) = go (x .given) refl (first-or-none l)
     go : (t : Bool) → x .given ≡ t → NoneGiven l ⊎ ((y : Row) × FirstGiven l y) → NoneGiven (x ∷ l) ⊎ ((y : Row) × FirstGiven (x ∷ l) y)
     go true e h = inr (x, record { earlier = []; later = l; stands = refl; passed = λ y m. absurd (List·Memᴰ·not-nil m); given = e })
     go false e (inl h) = inl (none-cons x l e h)
-    go false e (inr (y, F)) = inr (y, record { earlier = x ∷ F .earlier; later = F .later; stands = ap {B = List Row} (λ k. x ∷ k) (F .stands); passed = none-cons x (F .earlier) e (F .passed); given = F .given })
+    go false e (inr (y, F)) = inr (
+      y,
+      record {
+        earlier = x ∷ F .earlier;
+        later = F .later;
+        stands = ap {B = List Row} (λ k. x ∷ k) (F .stands);
+        passed = none-cons x (F .earlier) e (F .passed);
+        given = F .given;
+      },
+    )
 
-module _ {A : Type 0} (w : List ℕ) (d : Done A) where
+module _ {A B : Type 0} (w : B) (d : Done A B) where
   pub judged-none : (l : List Row) → NoneGiven l → judged l w d ≡ d
   unfolding judged
   judged-none [] h = refl
@@ -62,21 +72,27 @@ module _ {A : Type 0} (w : List ℕ) (d : Done A) where
   pub judged-first : (l : List Row) (x : Row) → FirstGiven l x → judged l w d ≡ record { answer = refused (number (x .name)) (x .place); left = w }
   judged-first l x F = rw (F .stands) (judged-at (F .earlier) (F .later) x (F .passed) (F .given))
 
--- ---- what the rows leave known
--- a row that asks each of n places: none is bad
-at-first : (x : Refusal) (n : ℕ) (bad : ℕ → Bool) → atFirst x n bad .given ≡ false → (i : ℕ) → i < n → bad i ≡ false
-at-first x n bad e i h = go (bad i) refl
-  where
-    go : (t : Bool) → bad i ≡ t → bad i ≡ false
-    go true b = absurd (least-is bad n .none-before i (let l = ltb-false (least bad n) n e in omega arith) b)
-    go false b = b
+-- what the rows say
+-- a row that asks each of n places is not given exactly where none is bad
+at-first : (x : Refusal) (n : ℕ) (bad : ℕ → Bool) → (atFirst x n bad .given ≡ false) ↔ ((i : ℕ) → i < n → bad i ≡ false)
+at-first x n bad = (
+  λ e i h. bool-eq-false (λ b. least-is bad n .none-before i (let l = ltb-false (least bad n) n e in omega arith) b),
+  λ h. bool-eq-false (λ t. let l = ltb-true (least bad n) n t in false≢true (sym (h (least bad n) l) ∙ least-is bad n .passes l)),
+)
 
--- what refusals 1 to 6 leave: the network and condition are sound, V×Q is at most its ceiling, and both marks are there
+-- a test that is negated is not given exactly where it passes
+not-given : (t : Bool) → (not t ≡ false) ↔ Yes t
+not-given t = (λ e. not-false t e, λ e. ap not e)
+
+onlyBelow-law : (n s : ℕ) → Yes (onlyBelow n s) ↔ ((k : ℕ) → Yes (has s k) → k < n)
+unfolding onlyBelow
+onlyBelow-law n s = (λ e k h. has-below n s k (ltb-true _ _ e) h, λ h. lt-ltb _ _ (below-has n s h))
+
+-- what holds of an accepted question: over the network as a chain may use it all that is named is there, and V×Q is at most its ceiling
 pub record Ready (D : Question) : Type 0 where
-  pub sound : Sound (usable (D .network)) (D .condition)
+  pub sound : Sound (usable D) (D .condition)
   pub few : pairs D ≤ ceilings .words
-  pub from-in : D .from < usable (D .network) .marks
-  pub to-in : D .to < usable (D .network) .marks
+  pub to-in : D .to < usable D .marks
 
 -- a row of a list is found by looking
 ruleset rows = (List·Memᴰ·head, List·Memᴰ·tail)
@@ -88,92 +104,147 @@ module _ (D : Question) where
   abbrev C : Condition
   C = D .condition
 
-  module _ (h : NoneGiven (lent-tests D)) where
-    -- refusal 1
-    record Sized : Type 0 where
-      marks : N .marks ≤ ceilings .marks
-      columns : length (N .sets) ≡ ties N
-
-    sized : Sized
-    unfolding lent-tests sizes
-    sized =
-        let (a, x) = and-in _ _ (not-false _ (h (sizes D) (search rows depth 16))) in
-        let (_, y) = and-in _ _ x in
-        let (_, z) = and-in _ _ y in
-        let (_, l) = and-in _ _ z in
-        record { marks = leb-true _ _ (and-in _ _ a .1); columns = eqb-true _ _ l }
-
-    -- refusal 2
-    record Tied (e : ℕ) : Type 0 where
-      from : fromOf N e < N .marks
-      to : toOf N e < N .marks
-      kinds : kindsOf N e < 2 ^ N .kinds
-
-    tied : (e : ℕ) → e < ties N → Tied e
-    unfolding lent-tests badTie onlyBelow
-    tied e l =
-        let (a, x) = and-in _ _ (not-false _ (at-first BadTie (ties N) _ (h (badTie D) (search rows depth 16)) e l)) in
+  -- refusals 1 to 6, each in the words of the table
+  sizes-law : (sizes D .given ≡ false) ↔ (((1 ≤ N .marks) × (N .marks ≤ ceilings .marks)) × ((1 ≤ N .kinds) × (N .kinds ≤ ceilings .kinds)) × (ties N ≤ ceilings .ties) × ((length (N .tos) ≡ ties N) × (length (N .sets) ≡ ties N)))
+  unfolding sizes
+  sizes-law = (
+    λ e. let (a, x) = and-in _ _ (not-given _ .0 e) in
         let (b, y) = and-in _ _ x in
-        record { from = ltb-true _ _ a; to = ltb-true _ _ b; kinds = ltb-true _ _ y }
+        let (c, z) = and-in _ _ y in
+        let (d, f) = and-in _ _ z in
+        let (a₁, a₂) = and-in _ _ a in
+        let (b₁, b₂) = and-in _ _ b in
+        ((leb-true _ _ a₁, leb-true _ _ a₂), (leb-true _ _ b₁, leb-true _ _ b₂), leb-true _ _ c, (eqb-true _ _ d, eqb-true _ _ f)),
+    λ ((a₁, a₂), (b₁, b₂), c, (d, f)). not-given _ .1
+        (and-of (and-of (le-leb _ _ a₁) (le-leb _ _ a₂)) (and-of (and-of (le-leb _ _ b₁) (le-leb _ _ b₂)) (and-of (le-leb _ _ c) (and-of (eqb-of d) (eqb-of f))))),
+  )
 
-    -- refusal 4
-    record Stated : Type 0 where
-      states : C .states ≤ ceilings .states
-      start : C .start < 2 ^ C .states
-      accept : C .accept < 2 ^ C .states
+  ties-law : (badTie D .given ≡ false) ↔ ((e : ℕ) → e < ties N → (fromOf N e < N .marks) × (toOf N e < N .marks) × ((k : ℕ) → Yes (has (kindsOf N e) k) → k < N .kinds))
+  unfolding badTie
+  ties-law = (
+    λ g e l. let (a, x) = and-in _ _ (not-given _ .0 (at-first BadTie (ties N) _ .0 g e l)) in
+        let (b, y) = and-in _ _ x in
+        (ltb-true _ _ a, ltb-true _ _ b, onlyBelow-law _ _ .0 y),
+    λ h. at-first BadTie (ties N) _ .1 (λ e l. let (a, b, c) = h e l in not-given _ .1 (and-of (lt-ltb _ _ a) (and-of (lt-ltb _ _ b) (onlyBelow-law _ _ .1 c)))),
+  )
 
-    stated : Stated
-    unfolding lent-tests badCondition onlyBelow
-    stated =
-        let (a, x) = and-in _ _ (not-false _ (h (badCondition D) (search rows depth 16))) in
-        let (_, y) = and-in _ _ x in
-        let (b, c) = and-in _ _ y in
-        record { states = leb-true _ _ (and-in _ _ a .1); start = ltb-true _ _ b; accept = ltb-true _ _ c }
+  -- tie e + 1 is out of order exactly if its to mark is below that of tie e
+  after-one : (e : ℕ) → (ltb 0 (suc e) and ltb (toOf N (suc e)) (toOf N (suc e - 1))) ≡ ltb (toOf N (suc e)) (toOf N e)
+  unfolding _and_
+  after-one e =
+      let z : suc e - 1 ≡ e = omega arith in
+      rw (lt-ltb 0 (suc e) (omega arith)) (ap (λ (i : ℕ). ltb (toOf N (suc e)) (toOf N i)) z)
 
-    -- refusal 5
-    moves-in : (j : ℕ) → j < length (C .moves) → (moveAt C j .from < C .states) × (moveAt C j .to < C .states)
-    unfolding lent-tests badMove
-    moves-in j l =
-        let (a, x) = and-in _ _ (not-false _ (at-first BadMove (length (C .moves)) _ (h (badMove D) (search rows depth 16)) j l)) in
-        (ltb-true _ _ a, ltb-true _ _ (and-in _ _ x .1))
+  order-law : (tieOrder D .given ≡ false) ↔ ((e : ℕ) → suc e < ties N → toOf N e ≤ toOf N (suc e))
+  unfolding tieOrder _and_
+  order-law = (
+    λ g e l. ltb-false (toOf N (suc e)) (toOf N e) (sym (after-one e) ∙ at-first TieOrder (ties N) _ .0 g (suc e) l),
+    λ h. at-first TieOrder (ties N) _ .1 (λ e l. below h e l),
+  )
+    where
+      below : ((e : ℕ) → suc e < ties N → toOf N e ≤ toOf N (suc e)) → (e : ℕ) → e < ties N → ltb 0 e and ltb (toOf N e) (toOf N (e - 1)) ≡ false
+      below h zero l = refl
+      below h (suc e) l = after-one e ∙ le-ltb (toOf N (suc e)) (toOf N e) (h e l)
 
-    -- refusal 6
-    ends-in : (D .from < N .marks) × (D .to < N .marks)
-    unfolding lent-tests badEnds
-    ends-in = let (a, b) = and-in _ _ (not-false _ (h (badEnds D) (search rows depth 16))) in (ltb-true _ _ a, ltb-true _ _ b)
+  condition-law : (badCondition D .given ≡ false) ↔ (((1 ≤ C .states) × (C .states ≤ ceilings .states)) × (length (C .moves) ≤ ceilings .moves) × ((q : ℕ) → Yes (has (C .start) q) → q < C .states) × ((q : ℕ) → Yes (has (C .accept) q) → q < C .states))
+  unfolding badCondition
+  condition-law = (
+    λ e. let (a, x) = and-in _ _ (not-given _ .0 e) in
+        let (b, y) = and-in _ _ x in
+        let (c, d) = and-in _ _ y in
+        let (a₁, a₂) = and-in _ _ a in
+        ((leb-true _ _ a₁, leb-true _ _ a₂), leb-true _ _ b, onlyBelow-law _ _ .0 c, onlyBelow-law _ _ .0 d),
+    λ ((a₁, a₂), b, c, d). not-given _ .1 (and-of (and-of (le-leb _ _ a₁) (le-leb _ _ a₂)) (and-of (le-leb _ _ b) (and-of (onlyBelow-law _ _ .1 c) (onlyBelow-law _ _ .1 d)))),
+  )
 
+  moves-law : (badMove D .given ≡ false) ↔ ((j : ℕ) → j < length (C .moves) → (moveAt C j .from < C .states) × (moveAt C j .kind < N .kinds) × (moveAt C j .to < C .states))
+  unfolding badMove
+  moves-law = (
+    λ g j l. let (a, x) = and-in _ _ (not-given _ .0 (at-first BadMove (length (C .moves)) _ .0 g j l)) in
+        let (b, c) = and-in _ _ x in
+        (ltb-true _ _ a, ltb-true _ _ b, ltb-true _ _ c),
+    λ h. at-first BadMove (length (C .moves)) _ .1 (λ j l. let (a, b, c) = h j l in not-given _ .1 (and-of (lt-ltb _ _ a) (and-of (lt-ltb _ _ b) (lt-ltb _ _ c)))),
+  )
+
+  ends-law : (badEnds D .given ≡ false) ↔ ((D .from < N .marks) × (D .to < N .marks))
+  unfolding badEnds
+  ends-law = (
+    λ e. let (a, b) = and-in _ _ (not-given _ .0 e) in (ltb-true _ _ a, ltb-true _ _ b),
+    λ (a, b). not-given _ .1 (and-of (lt-ltb _ _ a) (lt-ltb _ _ b)),
+  )
+
+  -- none of refusals 1 to 6 is given exactly where the question is as the table wants it
+  pub accepted-law : NoneGiven (lent-tests D) ↔ Accepted D
+  unfolding lent-tests
+  accepted-law = (to, of)
+    where
+      to : NoneGiven (lent-tests D) → Accepted D
+      to h =
+          let (m, k, t, c) = sizes-law .0 (h (sizes D) (search rows depth 16)) in
+          let T = ties-law .0 (h (badTie D) (search rows depth 16)) in
+          let (q, f, s, a) = condition-law .0 (h (badCondition D) (search rows depth 16)) in record {
+            marks = m;
+            kinds = k;
+            few-ties = t;
+            columns = c;
+            tie = λ e l. (T e l .0, T e l .1);
+            kind = λ e i l x. T e l .2 i x;
+            rising = order-law .0 (h (tieOrder D) (search rows depth 16));
+            states = q;
+            few-moves = f;
+            start = s;
+            accept = a;
+            move = moves-law .0 (h (badMove D) (search rows depth 16));
+            ends = ends-law .0 (h (badEnds D) (search rows depth 16));
+          }
+
+      of : Accepted D → NoneGiven (lent-tests D)
+      of A =
+          none-cons _ _ (sizes-law .1 (A .marks, A .kinds, A .few-ties, A .columns))
+          (none-cons _ _ (ties-law .1 (λ e l. (A .tie e l .0, A .tie e l .1, λ k x. A .kind e k l x)))
+          (none-cons _ _ (order-law .1 (A .rising))
+          (none-cons _ _ (condition-law .1 (A .states, A .few-moves, A .start, A .accept))
+          (none-cons _ _ (moves-law .1 (A .move))
+          (none-one _ .1 (ends-law .1 (A .ends)))))))
+
+  module _ (A : Accepted D) where
     kinds-in : (e k : ℕ) → Yes (has (kindsOf N e) k) → k < N .kinds
     kinds-in e k x = go (ltb e (ties N)) refl
       where
         go : (t : Bool) → ltb e (ties N) ≡ t → k < N .kinds
-        go true b = has-below (N .kinds) (kindsOf N e) k (tied e (ltb-true _ _ b) .kinds) x
-        go false b = let l = ltb-false e (ties N) b in let c = sized .columns in absurd (zero-has k (rw (List·getD-eq-default (N .sets) 0 {n = e} (omega arith)) at x))
+        go true b = A .kind e k (ltb-true _ _ b) x
+        go false b = let l = ltb-false e (ties N) b in let c = A .columns .1 in absurd (zero-has k (rw (List·getD-eq-default (N .sets) 0 {n = e} (omega arith)) at x))
 
     follows-in : (p k q : ℕ) → Yes (follows C p k q) → (p < C .states) × (q < C .states)
     unfolding follows
     follows-in p k q x =
         let (j, l, y) = anyBelow-in _ _ x in
         let (a, z) = and-in _ _ y in
-        let (m, n) = moves-in j l in
+        let (m, _, n) = A .move j l in
         (rw (eqb-true (moveAt C j .from) p a) at m, rw (eqb-true (moveAt C j .to) q (and-in _ _ z .1)) at n)
 
-    starts-in : (q : ℕ) → Yes (starts C q) → q < C .states
-    unfolding starts
-    starts-in q x = has-below (C .states) (C .start) q (stated .start) x
-
-    accepts-in : (q : ℕ) → Yes (accepts C q) → q < C .states
-    unfolding accepts
-    accepts-in q x = has-below (C .states) (C .accept) q (stated .accept) x
-
-    -- refusals 1 to 6 pass: what is lent besides the buffers is sound
     pub ready : Ready D
-    unfolding usable
+    unfolding usable starts accepts
     ready = record {
-      sound = record { from-in = λ e l. tied e l .from; to-in = λ e l. tied e l .to; kind-in = kinds-in; follow-in = follows-in; start-in = starts-in; accept-in = accepts-in };
-      few = (let a = mul-le-mul (sized .marks) (stated .states) in omega arith);
-      from-in = ends-in .0;
-      to-in = ends-in .1;
+      sound = record { from-in = λ e l. A .tie e l .0; to-in = λ e l. A .tie e l .1; kind-in = kinds-in; follow-in = follows-in; start-in = A .start; accept-in = A .accept };
+      few = (let a = mul-le-mul (A .marks .1) (A .states .1) in omega arith);
+      to-in = A .ends .1;
     }
+
+    -- 01: "so the ties into one mark are one unbroken run of the table"
+    rises-to : (i k : ℕ) → i + k < ties N → toOf N i ≤ toOf N (i + k)
+    rises-to i zero l = le-of-eq (ap (λ (e : ℕ). toOf N e) (sym (add-zero i)))
+    rises-to i (suc k) l =
+        let l′ : suc (i + k) < ties N = rw add-suc at l in
+        let a = rises-to i k (omega arith) in
+        let b = A .rising (i + k) l′ in
+        rw add-suc (le-trans a b)
+
+    pub one-run : (i j k : ℕ) → i ≤ j → j ≤ k → k < ties N → toOf N i ≡ toOf N k → toOf N j ≡ toOf N i
+    one-run i j k ij jk l e =
+        let a : toOf N i ≤ toOf N j = rw (add-sub-of-le ij) at (rises-to i (j - i) (rw (add-sub-of-le ij) (omega arith))) in
+        let b : toOf N j ≤ toOf N k = rw (add-sub-of-le jk) at (rises-to j (k - j) (rw (add-sub-of-le jk) l)) in
+        omega arith
 
   -- refusal 8 passes exactly where the rounds are in bounds and the area is the right one
   pub area-tested : (r : ℕ) (w : List ℕ) → (wrongArea D r w .given ≡ false) ↔ ((r ≤ pairs D) × (take (pairs D) w ≡ right D r))
@@ -184,16 +255,17 @@ module _ (D : Question) where
   )
 
   -- that is, where it passes the local test
-  pub area-local : Ready D → (r : ℕ) (w : List ℕ) → pairs D ≤ length w → (wrongArea D r w .given ≡ false) ↔ ((r ≤ pairs D) × Local (usable N) C (D .from) r (at (usable N) C (D .from) w))
+  pub area-local : Ready D → (r : ℕ) (w : List ℕ) → pairs D ≤ length w → (wrongArea D r w .given ≡ false)
+      ↔ ((r ≤ pairs D) × Local (usable D) C (D .from) r (at (usable D) C (D .from) w))
   unfolding usable right
   area-local R r w long =
-      let A = area-right (usable N) C (D .from) r w long in
+      let A = area-right (usable D) C (D .from) r w long in
       let f = R .few in (
-        λ e. let (a, b) = area-tested r w .0 e in (a, local-law (usable N) C (D .from) r (R .sound) (omega arith) _ .1 (A .0 b)),
-        λ (a, L). area-tested r w .1 (a, A .1 (local-law (usable N) C (D .from) r (R .sound) (omega arith) _ .0 L)),
+        λ e. let (a, b) = area-tested r w .0 e in (a, local-law (usable D) C (D .from) r (R .sound) (omega arith) _ .1 (A .0 b)),
+        λ (a, L). area-tested r w .1 (a, A .1 (local-law (usable D) C (D .from) r (R .sound) (omega arith) _ .0 L)),
       )
 
-  -- ---- each call's list of rows, by what is added to the one before
+  -- each call's list of rows, by what is added to the one before
   pub start-passes : (w : List ℕ) → NoneGiven (start-tests D w) ↔ (NoneGiven (lent-tests D) × (pairs D ≤ length w))
   unfolding start-tests shortArea
   start-passes w =

@@ -1,15 +1,17 @@
 -- The laws of sets held in a number: which numbers are in a set that is made of a test, and that a set with none in it is 0.
-use mathlib.Core.Path.{_≡_, refl, sym, ap, subst, _∙_}
-use mathlib.Core.Logic.{_⊎_, inl, inr, ⊎-elim}
+use mathlib.Core.Path.{_≡_, refl, sym, ap, _∙_}
+use mathlib.Core.Logic.{_↔_, _⊎_, inl, inr, ⊎-elim}
 use mathlib.Core.Bool.{Bool, true, false, not, false≢true}
-use Prim.Native.Nat.{ℕ, zero, suc, _+_, _-_, _*_, _/_, _%_, _^_, _<_, max}
-use native.Mathlib.Nat.{one-mul, div-eq-of-lt, mod-lt, le-of-suc-le-suc, eq-or-lt-of-le, lt-suc-self, pow-suc, lt-trans, lt-of-lt-of-le, not-suc-le-zero}
+use Prim.Native.Nat.{ℕ, zero, suc, _+_, _-_, _*_, _/_, _%_, _^_, _≤_, _<_, max}
+use native.Mathlib.Nat.{one-mul, div-eq-of-lt, le-of-suc-le-suc, eq-or-lt-of-le, lt-suc-self, pow-suc, lt-trans, lt-of-lt-of-le, lt-of-le-of-lt, le-div-iff-mul-le, div-le-self, not-suc-le-zero, div-self, zero-div, div-eq-of-lt-le}
 use native.Mathlib.Omega.{arith, ne-cases, max-cases}
 use lib.Arith.{digits-mod}
 use lib.Dec.{lit<, eqb, ltb}
+use lib.Count.{leading-top}
 use lib.Pow.{pow-pos, pow-lt, pow-mono, pow-add, shl-shr, shr-shr}
 use lib.Bits.{bitOr, or-lt, or-shr, or-step, shifted-even}
-use borrow.Author.Tests.{eqb-true, eqb-false, ltb-true, ltb-false}
+use mathlib.Mathlib.Data.Bool.Basic.{eq-true-of-not-eq-false}
+use borrow.Author.Tests.{eqb-true, eqb-false, ltb-true, ltb-false, ne-eqb}
 use Rattle.walk.specs.Numbers.{has, pick, setBelow}
 use Rattle.walk.proofs.Numbers.{Yes, eqb-of}
 
@@ -22,10 +24,10 @@ or-digit a b j =
     let x = a / 2 ^ j in
     let y = b / 2 ^ j in
     ap (λ (n : ℕ). n % 2) (or-shr a b j ∙ or-step x y)
-    ∙ digits-mod (bitOr (x / 2) (y / 2)) (max-cases (x % 2) (y % 2) (max (x % 2) (y % 2) < 2) (λ le e. subst (λ (n : ℕ). n < 2) (sym e) (mod-lt y (lit< tt))) (λ le e. subst (λ (n : ℕ). n < 2) (sym e) (mod-lt x (lit< tt))))
+    ∙ digits-mod (bitOr (x / 2) (y / 2)) (let z : max (x % 2) (y % 2) < 2 = omega arith in z)
 
 pow-digit : (q : ℕ) → 2 ^ q / 2 ^ q % 2 ≡ 1
-pow-digit q = ap (λ (n : ℕ). n % 2) (ap (λ (n : ℕ). n / 2 ^ q) (sym (one-mul (2 ^ q))) ∙ shl-shr 1 q)
+pow-digit q = ap (λ (n : ℕ). n % 2) (div-self (pow-pos q))
 
 pow-other : (q j : ℕ) → (j ≡ q → ⊥) → 2 ^ q / 2 ^ j % 2 ≡ 0
 pow-other q j ne = ne-cases j q (2 ^ q / 2 ^ j % 2 ≡ 0) ne (λ lt. below lt) (λ lt. ap (λ (n : ℕ). n % 2) (div-eq-of-lt (pow-lt lt)))
@@ -38,7 +40,7 @@ pow-other q j ne = ne-cases j q (2 ^ q / 2 ^ j % 2 ≡ 0) ne (λ lt. below lt) (
         ∙ ap (λ (n : ℕ). n % 2) (shl-shr (2 ^ suc d) j ∙ sym (one-mul (2 ^ suc d)))
         ∙ shifted-even 1 d
 
--- ---- which numbers are in a set
+-- which numbers are in a set
 has-digit : (s q : ℕ) → Yes (has s q) → s / 2 ^ q % 2 ≡ 1
 unfolding has
 has-digit s q h = eqb-true _ _ h
@@ -48,44 +50,37 @@ unfolding has
 digit-has s q h = eqb-of {n = 1} h
 
 pub zero-has : (q : ℕ) → Yes (has 0 q) → ⊥
-zero-has q h = let e = has-digit 0 q h in let z : 0 / 2 ^ q ≡ 0 = div-eq-of-lt (pow-pos q) in let w : 0 / 2 ^ q % 2 ≡ 0 = ap (λ (n : ℕ). n % 2) z in omega arith
+zero-has q h = let e = has-digit 0 q h in let z = zero-div (2 ^ q) in omega arith
 
-or-has : (a b q : ℕ) → Yes (has (bitOr a b) q) → Yes (has a q) ⊎ Yes (has b q)
-or-has a b q h =
-    let e = has-digit (bitOr a b) q h in
-    let f = or-digit a b q in
-    max-cases (a / 2 ^ q % 2) (b / 2 ^ q % 2) (Yes (has a q) ⊎ Yes (has b q)) (λ le g. inr (digit-has b q (sym g ∙ sym f ∙ e))) (λ le g. inl (digit-has a q (sym g ∙ sym f ∙ e)))
+or-has : (a b q : ℕ) → Yes (has (bitOr a b) q) ↔ (Yes (has a q) ⊎ Yes (has b q))
+or-has a b q = (
+  λ h. let e = has-digit (bitOr a b) q h in
+      max-cases (a / 2 ^ q % 2) (b / 2 ^ q % 2) _ (λ le g. inr (digit-has b q (sym g ∙ sym f ∙ e))) (λ le g. inl (digit-has a q (sym g ∙ sym f ∙ e))),
+  λ h. digit-has (bitOr a b) q (f ∙ ⊎-elim (λ k. let e = has-digit a q k in one e) (λ k. let e = has-digit b q k in other e) h),
+)
+  where
+    f : bitOr a b / 2 ^ q % 2 ≡ max (a / 2 ^ q % 2) (b / 2 ^ q % 2)
+    f = or-digit a b q
 
-has-or-left : (a b q : ℕ) → Yes (has a q) → Yes (has (bitOr a b) q)
-has-or-left a b q h =
-    let e = has-digit a q h in
-    let f = or-digit a b q in
-    let u : b / 2 ^ q % 2 < 2 = mod-lt (b / 2 ^ q) (lit< tt) in
-    digit-has (bitOr a b) q (f ∙ (let z : max (a / 2 ^ q % 2) (b / 2 ^ q % 2) ≡ 1 = omega arith in z))
+    one : a / 2 ^ q % 2 ≡ 1 → max (a / 2 ^ q % 2) (b / 2 ^ q % 2) ≡ 1
+    one e = omega arith
 
-has-or-right : (a b q : ℕ) → Yes (has b q) → Yes (has (bitOr a b) q)
-has-or-right a b q h =
-    let e = has-digit b q h in
-    let f = or-digit a b q in
-    let u : a / 2 ^ q % 2 < 2 = mod-lt (a / 2 ^ q) (lit< tt) in
-    digit-has (bitOr a b) q (f ∙ (let z : max (a / 2 ^ q % 2) (b / 2 ^ q % 2) ≡ 1 = omega arith in z))
+    other : b / 2 ^ q % 2 ≡ 1 → max (a / 2 ^ q % 2) (b / 2 ^ q % 2) ≡ 1
+    other e = omega arith
 
 pow-has : (n q : ℕ) → Yes (has (2 ^ n) q) → q ≡ n
-pow-has n q h = go (eqb q n) refl
-  where
-    go : (t : Bool) → eqb q n ≡ t → q ≡ n
-    go true e = eqb-true q n e
-    go false e = let z = pow-other n q (eqb-false q n e) in let w = has-digit (2 ^ n) q h in absurd (omega arith)
+pow-has n q h = let w = has-digit (2 ^ n) q h in eqb-true q n (eq-true-of-not-eq-false (λ e. let z = pow-other n q (eqb-false q n e) in absurd (omega arith)))
 
--- ---- a set that is made
+-- a set that is made
 pub set-in : (n : ℕ) (p : ℕ → Bool) (q : ℕ) → Yes (has (setBelow n p) q) → (q < n) × Yes (p q)
 unfolding setBelow
 set-in zero p q h = absurd (zero-has q h)
 set-in (suc n) p q h = go (p n) refl h (λ k. set-in n p q k)
   where
-    go : (t : Bool) → p n ≡ t → Yes (has (pick t (bitOr (setBelow n p) (2 ^ n)) (setBelow n p)) q) → (Yes (has (setBelow n p) q) → (q < n) × Yes (p q)) → (q < suc n) × Yes (p q)
+    go : (t : Bool) → p n ≡ t → Yes (has (pick t (bitOr (setBelow n p) (2 ^ n)) (setBelow n p)) q)
+        → (Yes (has (setBelow n p) q) → (q < n) × Yes (p q)) → (q < suc n) × Yes (p q)
     go true e h ih =
-        ⊎-elim (λ k. let r = ih k in let l : q < n = r .0 in (omega arith, r .1)) (λ k. let z : q ≡ n = pow-has n q k in (omega arith, rw z e)) (or-has (setBelow n p) (2 ^ n) q h)
+        ⊎-elim (λ k. let r = ih k in let l : q < n = r .0 in (omega arith, r .1)) (λ k. let z : q ≡ n = pow-has n q k in (omega arith, rw z e)) (or-has (setBelow n p) (2 ^ n) q .0 h)
     go false e h ih = let r = ih h in let l : q < n = r .0 in (omega arith, r .1)
 
 pub set-of : (n : ℕ) (p : ℕ → Bool) (q : ℕ) → q < n → Yes (p q) → Yes (has (setBelow n p) q)
@@ -94,36 +89,22 @@ set-of zero p q l t = absurd (not-suc-le-zero l)
 set-of (suc n) p q l t = go (p n) refl (eq-or-lt-of-le (le-of-suc-le-suc l)) (λ k. set-of n p q k t)
   where
     go : (b : Bool) → p n ≡ b → (q ≡ n) ⊎ (q < n) → (q < n → Yes (has (setBelow n p) q)) → Yes (has (pick b (bitOr (setBelow n p) (2 ^ n)) (setBelow n p)) q)
-    go true e (inl k) ih = has-or-right (setBelow n p) (2 ^ n) q (rw k (digit-has (2 ^ n) n (pow-digit n)))
-    go true e (inr k) ih = has-or-left (setBelow n p) (2 ^ n) q (ih k)
+    go true e (inl k) ih = or-has (setBelow n p) (2 ^ n) q .1 (inr (rw k (digit-has (2 ^ n) n (pow-digit n))))
+    go true e (inr k) ih = or-has (setBelow n p) (2 ^ n) q .1 (inl (ih k))
     go false e (inl k) ih = absurd (false≢true (sym e ∙ rw k at t))
     go false e (inr k) ih = ih k
 
--- ---- the empty set
+-- the empty set
 pub some-of : (s q : ℕ) → Yes (has s q) → Yes (nonempty s)
 unfolding nonempty
-some-of s q h = go (eqb s 0) refl
-  where
-    go : (t : Bool) → eqb s 0 ≡ t → Yes (not t)
-    go true e = let z : s ≡ 0 = eqb-true s 0 e in absurd (zero-has q (rw z at h))
-    go false e = refl
+some-of s q h = ap not (ne-eqb s 0 (λ z. zero-has q (rw z at h)))
 
 -- a number that is not 0 has a digit 1 among as many as bound it
 digit-of : (n s : ℕ) → s < 2 ^ n → (s ≡ 0 → ⊥) → (q : ℕ) × (q < n) × (s / 2 ^ q % 2 ≡ 1)
-digit-of zero s l ne = absurd (ne (let z : s < 1 = l in omega arith))
-digit-of (suc n) s l ne = go (eqb (s % 2) 1) refl (λ ne′. digit-of n (s / 2) half ne′)
-  where
-    half : s / 2 < 2 ^ n
-    half = let z : s < 2 ^ n * 2 = subst (λ (k : ℕ). s < k) (pow-suc 2 n) l in omega arith
-
-    go : (t : Bool) → eqb (s % 2) 1 ≡ t → ((s / 2 ≡ 0 → ⊥) → (q : ℕ) × (q < n) × (s / 2 / 2 ^ q % 2 ≡ 1)) → (q : ℕ) × (q < suc n) × (s / 2 ^ q % 2 ≡ 1)
-    go true e ih = (0, omega arith, (let z : s / 2 ^ 0 ≡ s = omega arith in ap (λ (k : ℕ). k % 2) z ∙ eqb-true (s % 2) 1 e))
-    go false e ih =
-        let odd : ¬ (s % 2 ≡ 1) = eqb-false (s % 2) 1 e in
-        let two : s % 2 < 2 = mod-lt s (lit< tt) in
-        let ne′ : s / 2 ≡ 0 → ⊥ = λ z. ne (omega arith) in
-        let (q, lq, d) = ih ne′ in
-        (1 + q, omega arith, ap (λ (k : ℕ). k % 2) (sym (shr-shr s 1 q)) ∙ d)
+digit-of n s l ne =
+    let (j, e, lo, hi) = leading-top n s (omega arith) l in
+    let h = pow-suc 2 j in
+    (j, omega arith, ap (λ (k : ℕ). k % 2) (div-eq-of-lt-le {k = 1} (2 ^ j) (omega arith) (omega arith)))
 
 pub in-some : (n s : ℕ) → s < 2 ^ n → Yes (nonempty s) → (q : ℕ) × (q < n) × Yes (has s q)
 unfolding nonempty
@@ -151,4 +132,22 @@ has-below n s k l h = go (ltb k n) refl
         let z : s / 2 ^ k ≡ 0 = div-eq-of-lt (lt-of-lt-of-le l (pow-mono (ltb-false k n e))) in
         let w : s / 2 ^ k % 2 ≡ 0 = ap (λ (i : ℕ). i % 2) z in
         let d = has-digit s k h in
+        absurd (omega arith)
+
+lt-pow : (n : ℕ) → n < 2 ^ n
+lt-pow zero = lit< tt
+lt-pow (suc n) = let h = lt-pow n in let e : 2 ^ suc n ≡ 2 ^ n * 2 = pow-suc 2 n in omega arith
+
+-- and only such a set
+pub below-has : (n s : ℕ) → ((k : ℕ) → Yes (has s k) → k < n) → s < 2 ^ n
+below-has n s h = go (ltb s (2 ^ n)) refl
+  where
+    go : (t : Bool) → ltb s (2 ^ n) ≡ t → s < 2 ^ n
+    go true e = ltb-true s (2 ^ n) e
+    go false e =
+        let m = s / 2 ^ n in
+        let one : 1 ≤ m = le-div-iff-mul-le (pow-pos n) .1 (rw one-mul (ltb-false s (2 ^ n) e)) in
+        let small : m < 2 ^ s = lt-of-le-of-lt (div-le-self s (2 ^ n)) (lt-pow s) in
+        let (q, _, d) = digit-of s m small (λ z. (let y : m ≡ 0 = z in omega arith)) in
+        let k : n + q < n = h (n + q) (digit-has s (n + q) (ap (λ (i : ℕ). i % 2) (sym (shr-shr s n q)) ∙ d)) in
         absurd (omega arith)

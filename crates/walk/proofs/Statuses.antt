@@ -1,6 +1,6 @@
 -- The status of the right area, in the paper's words: Found with the least length of a matching chain, None exactly when no chain matches and
 -- no pair is left at the count, Going before either. A match of a greater length would pass through a pair at the count.
-use Prim.Native.Nat.{ℕ, suc, _-_, _≤_, _<_}
+use Prim.Native.Nat.{ℕ, suc, _≤_, _<_}
 use mathlib.Core.Path.{_≡_, refl, subst}
 use mathlib.Core.Bool.{Bool, true, false}
 use mathlib.Core.List.{List}
@@ -16,11 +16,10 @@ use Rattle.walk.specs.Network.{Network}
 use Rattle.walk.specs.Condition.{Condition, accepts}
 use Rattle.walk.specs.Walk.{Fits, LeastMatching}
 use Rattle.walk.specs.Area.{pairs, reach, word, pairsAt, smallest, status}
-use Rattle.walk.proofs.Numbers.{Yes, and-in, and-of, eqb-of, anyBelow-in, anyBelow-of, Least, least-is, FirstAt, first-below, clash}
-use Rattle.walk.proofs.Executable.{Sound, reach-law}
+use Rattle.walk.proofs.Numbers.{Yes, eqb-of, Least, least-is, FirstAt, first-below, clash}
+use Rattle.walk.proofs.Executable.{Sound, accepted, reach-law}
 use Rattle.walk.proofs.Words.{unreached, word-is}
-use Rattle.walk.proofs.Areas.{pairsAt-law}
-use Rattle.walk.proofs.Lengths.{Dist, dist-bound, word-dist, dist-word, level}
+use Rattle.walk.proofs.Lengths.{least-law, LeastTo, leastTo-bound, word-leastTo, passed}
 
 -- the two tests that decide a status: b is at most r, and n is above 0
 record Decided (b r n : ℕ) (S : Status) : Type 0 where
@@ -41,46 +40,35 @@ module _ (N : Network) (C : Condition) (s t : ℕ) (ok : Sound N C) where
   unfoldable pub matched : ℕ → Bool
   matched m = anyBelow (C .states) (λ q. accepts C q and reach N C s m t q)
 
-  matched-in : (m : ℕ) → Yes (matched m) → (q : ℕ) × Yes (accepts C q) × Yes (reach N C s m t q)
+  matched-is : (m : ℕ) → Yes (matched m) ↔ ((q : ℕ) × Yes (accepts C q) × Yes (reach N C s m t q))
   unfolding matched
-  matched-in m h = let (q, _, k) = anyBelow-in _ _ h in let (a, x) = and-in _ _ k in (q, a, x)
-
-  matched-of : (m q : ℕ) → Yes (accepts C q) → Yes (reach N C s m t q) → Yes (matched m)
-  unfolding matched
-  matched-of m q a x = anyBelow-of _ _ q (ok .accept-in q a) (and-of a x)
+  matched-is m = accepted N C ok (reach N C s m t)
 
   pub matched-law : (m : ℕ) → Yes (matched m) ↔ ((c : List ℕ) × (length c ≡ m) × Fits N C s t c)
   matched-law m = (
-    λ h. let (q, a, x) = matched-in m h in let (c, l, (j, y)) = reach-law N C ok s m t q .0 x in (c, l, (j, (q, a, y))),
-    λ (c, l, (j, (q, a, x))). matched-of m q a (reach-law N C ok s m t q .1 (c, l, (j, x))),
+    λ h. let (q, a, x) = matched-is m .0 h in let (c, l, (j, y)) = reach-law N C ok s m t q .0 x in (c, l, (j, (q, a, y))),
+    λ (c, l, (j, (q, a, x))). matched-is m .1 (q, a, reach-law N C ok s m t q .1 (c, l, (j, x))),
   )
 
   -- the least length that is matched is the paper's
   pub shortest-law : (d : ℕ) → FirstAt matched d ↔ LeastMatching N C s t d
-  shortest-law d = (
-    λ F. record { met = matched-law d .0 (F .met); least = λ c x. let n : ¬ (length c < d) = λ l. F .least (length c) l (matched-law (length c) .1 (c, refl, x)) in omega arith },
-    λ S. record { met = matched-law d .1 (S .met); least = λ m l h. let (c, k, x) = matched-law m .0 h in let y = S .least c x in omega arith },
-  )
+  shortest-law d = least-law matched matched-law d
 
   -- 01: "A least length is at most V×Q - 1"
   pub shortest-bound : (d : ℕ) → t < N .marks → LeastMatching N C s t d → d < pairs N C
   shortest-bound d t-in S =
       let F = shortest-law d .1 S in
-      let (q, a, h) = matched-in d (F .met) in
-      dist-bound N C s ok d t q (record { met = h; least = λ m l x. F .least m l (matched-of m q a x) }) t-in (ok .accept-in q a)
+      let (q, a, h) = matched-is d .0 (F .met) in
+      leastTo-bound N C s ok d t q (record { met = h; least = λ m l x. F .least m l (matched-is m .1 (q, a, x)) }) t-in (ok .accept-in q a)
 
   module _ (t-in : t < N .marks) (r : ℕ) (few : r < unreached) where
     -- n is a word at t of an accepting state
     asked : ℕ → Bool
     asked n = anyBelow (C .states) (λ q. accepts C q and eqb (word N C s r t q) n)
 
-    asked-in : (n : ℕ) → Yes (asked n) → (q : ℕ) × Yes (accepts C q) × (word N C s r t q ≡ n)
+    asked-is : (n : ℕ) → Yes (asked n) ↔ ((q : ℕ) × Yes (accepts C q) × Yes (eqb (word N C s r t q) n))
     unfolding asked
-    asked-in n h = let (q, _, k) = anyBelow-in _ _ h in let (a, b) = and-in _ _ k in (q, a, eqb-true _ _ b)
-
-    asked-of : (q : ℕ) → Yes (accepts C q) → Yes (asked (word N C s r t q))
-    unfolding asked
-    asked-of q a = anyBelow-of _ _ q (ok .accept-in q a) (and-of a (eqb-of {m = word N C s r t q} refl))
+    asked-is n = accepted N C ok (λ q. eqb (word N C s r t q) n)
 
     smallest-is : Least asked (suc r) (smallest N C s t r)
     unfolding smallest asked
@@ -89,9 +77,9 @@ module _ (N : Network) (C : Condition) (s t : ℕ) (ok : Sound N C) where
     -- a matched length of at most r is asked for, itself or a smaller one
     not-nearer : (m : ℕ) → m ≤ r → Yes (matched m) → m < smallest N C s t r → ⊥
     not-nearer m l h k =
-        let (q, a, x) = matched-in m h in
+        let (q, a, x) = matched-is m .0 h in
         let y = word-is N C s r t q few .least m l x in
-        smallest-is .none-before (word N C s r t q) (omega arith) (asked-of q a)
+        smallest-is .none-before (word N C s r t q) (omega arith) (asked-is _ .1 (q, a, eqb-of {m = word N C s r t q} refl))
 
     status-is : Decided (smallest N C s t r) r (pairsAt N C s r) (status N C s t r)
     unfolding status
@@ -101,9 +89,9 @@ module _ (N : Network) (C : Condition) (s t : ℕ) (ok : Sound N C) where
     found-is d e =
         let (h, f) = status-is .found d e in
         let L : Least asked (suc r) d = subst (λ (x : ℕ). Least asked (suc r) x) f smallest-is in
-        let (q, a, w) = asked-in d (L .passes (omega arith)) in
-        let D = word-dist N C s r d t q few w (omega arith) in
-        (omega arith, record { met = matched-of d q a (D .met); least = λ m l x. not-nearer m (omega arith) x (omega arith) })
+        let (q, a, w) = asked-is d .0 (L .passes (omega arith)) in
+        let D = word-leastTo N C s r d t q few (eqb-true _ _ w) (omega arith) in
+        (omega arith, record { met = matched-is d .1 (q, a, D .met); least = λ m l x. not-nearer m (omega arith) x (omega arith) })
 
     pub going-is : status N C s t r ≡ Going → (0 < pairsAt N C s r) × ((m : ℕ) → m ≤ r → Yes (matched m) → ⊥)
     going-is e = let (h, f) = status-is .going e in (f, λ m l x. not-nearer m l x (omega arith))
@@ -111,15 +99,10 @@ module _ (N : Network) (C : Condition) (s t : ℕ) (ok : Sound N C) where
     pub none-is : status N C s t r ≡ None → (pairsAt N C s r ≡ 0) × ((m : ℕ) → Yes (matched m) → ⊥)
     none-is e =
         let (h, f) = status-is .none e in
-        (f, λ m x. let (q, a, y) = matched-in m x in let (d, _, D) = first-below (λ n. reach N C s n t q) m y in none-left h f d q a D)
+        (f, λ m x. let (q, a, y) = matched-is m .0 x in let (d, _, D) = first-below (λ n. reach N C s n t q) m y in none-left h f d q a D)
       where
-        none-left : r < smallest N C s t r → pairsAt N C s r ≡ 0 → (d q : ℕ) → Yes (accepts C q) → Dist N C s d t q → ⊥
-        none-left h f d q a D = go (leb d r) refl
-          where
-            go : (b : Bool) → leb d r ≡ b → ⊥
-            go true e = let l = leb-true d r e in not-nearer d l (matched-of d q a (D .met)) (omega arith)
-            go false e =
-                let l = leb-false d r e in
-                let (u, p, hu, hp, E) = level N C s ok (d - r) r t q (subst (λ (k : ℕ). Dist N C s k t q) (omega arith) D) t-in (ok .accept-in q a) in
-                let z = pairsAt-law N C s r .1 (u, p, hu, hp, dist-word N C s r r u p few E (omega arith)) in
-                omega arith
+        none-left : r < smallest N C s t r → pairsAt N C s r ≡ 0 → (d q : ℕ) → Yes (accepts C q) → LeastTo N C s d t q → ⊥
+        none-left h f d q a D =
+            let far : ¬ (d ≤ r) = λ l. not-nearer d l (matched-is d .1 (q, a, D .met)) (omega arith) in
+            let near : ¬ (r ≤ d) = λ l. (let z = passed N C s ok r d t q few l D t-in (ok .accept-in q a) in omega arith) in
+            omega arith

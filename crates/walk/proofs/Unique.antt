@@ -2,7 +2,6 @@
 -- tells its cases apart, and the number of a refusal tells its name.
 use Prim.Native.Nat.{ℕ}
 use mathlib.Core.Path.{_≡_, refl, sym, _∙_, ap}
-use mathlib.Core.List.{List}
 use lib.Dec.{eqb}
 use Rattle.walk.specs.declared.Refusal.{Refusal}
 use Rattle.walk.specs.declared.Refusal.the-variants.{Sizes, BadTie, TieOrder, BadCondition, BadMove, BadEnds, ShortArea, WrongArea, Unfinished, ShortChain, NotListed}
@@ -14,8 +13,8 @@ use Rattle.walk.specs.declared.Next.{Next}
 use Rattle.walk.specs.declared.Next.the-variants as next
 use Rattle.walk.specs.Numbers.{pick}
 use Rattle.walk.specs.Refusals.{number}
-use Rattle.walk.specs.Calls.{Answer, refused, gives, Progress, Reply, Chain, NoChain, End, Done}
-use Rattle.walk.specs.Answers.{saidPrepared, saidFirst, saidNext, Meets}
+use Rattle.walk.specs.Calls.{Answer, refused, gives, Progress, Reply, Chain, NoChain, End}
+use Rattle.walk.specs.Answers.{saidPrepared, saidFirst, saidNext, Unique}
 
 -- the name of a number
 named : ℕ → Refusal
@@ -37,7 +36,7 @@ named-number Unfinished = refl
 named-number ShortChain = refl
 named-number NotListed = refl
 
--- ---- each answer can be read back from what it says
+-- each answer can be read back from what it says
 abbrev readPrepared : Answer Progress → Prepared
 readPrepared (refused n p) = prepared.Refused (named n) p
 readPrepared (gives a) = prepared.After (record { done = a .done }) (a .status)
@@ -68,15 +67,15 @@ next-back next.Chain = refl
 next-back next.End = refl
 next-back (next.Refused n p) = ap (λ (x : Refusal). next.Refused x p) (named-number n)
 
--- ---- so what meets a promise is one
-pub unique : {A B : Type 0} (said : B → Answer A) (read : Answer A → B) → ((a : B) → read (said a) ≡ a) → (d : Done A) (a b : B) (v w : List ℕ) → Meets d (said a) v → Meets d (said b) w → (a ≡ b) × (v ≡ w)
+-- so what meets a promise is one
+unique : {A R B : Type 0} (said : R → Answer A) (read : Answer A → R) → ((a : R) → read (said a) ≡ a) → Unique said B
 unique said read back d a b v w m n = (sym (back a) ∙ ap read (m .answers ∙ sym (n .answers)) ∙ back b, m .leaves ∙ sym (n .leaves))
 
-pub unique-prepared : (d : Done Progress) (a b : Prepared) (v w : List ℕ) → Meets d (saidPrepared a) v → Meets d (saidPrepared b) w → (a ≡ b) × (v ≡ w)
-unique-prepared = unique saidPrepared readPrepared prepared-back
+pub unique-prepared : (B : Type 0) → Unique saidPrepared B
+unique-prepared B = unique saidPrepared readPrepared prepared-back
 
-pub unique-first : (d : Done Reply) (a b : First) (v w : List ℕ) → Meets d (saidFirst a) v → Meets d (saidFirst b) w → (a ≡ b) × (v ≡ w)
-unique-first = unique saidFirst readFirst first-back
+pub unique-first : (B : Type 0) → Unique saidFirst B
+unique-first B = unique saidFirst readFirst first-back
 
-pub unique-next : (d : Done Reply) (a b : Next) (v w : List ℕ) → Meets d (saidNext a) v → Meets d (saidNext b) w → (a ≡ b) × (v ≡ w)
-unique-next = unique saidNext readNext next-back
+pub unique-next : (B : Type 0) → Unique saidNext B
+unique-next B = unique saidNext readNext next-back

@@ -9,12 +9,12 @@ use native.Mathlib.Omega.{arith}
 use lib.Dec.{leb, eqb}
 use borrow.Author.Tests.{leb-true, leb-false, eqb-true}
 use Rattle.walk.specs.Ceilings.{ceilings}
-use Rattle.walk.specs.Numbers.{_and_, pick, anyBelow, least}
-use Rattle.walk.specs.Network.{Network, ties, fromOf, toOf}
+use Rattle.walk.specs.Numbers.{_and_, pick, least}
+use Rattle.walk.specs.Network.{Network}
 use Rattle.walk.specs.Condition.{Condition, starts}
-use Rattle.walk.specs.Area.{leads, reach, word}
-use Rattle.walk.proofs.Numbers.{Yes, and-in, and-of, eqb-of, anyBelow-in, anyBelow-of, Least, least-is}
-use Rattle.walk.proofs.Executable.{Sound, Arc, arc-in, leads-states, reach-zero, reach-suc, suc-reach}
+use Rattle.walk.specs.Area.{into, reach, word}
+use Rattle.walk.proofs.Numbers.{Yes, eqb-of, Least, least-is}
+use Rattle.walk.proofs.Executable.{Sound, Arc, arc-in, into-in, into-of, reach-zero, reach-suc, suc-reach}
 
 abbrev pub unreached : ℕ
 unreached = ceilings .unreached
@@ -50,24 +50,15 @@ module _ (N : Network) (C : Condition) (s : ℕ) where
       go (inr h) (inr k) = h ∙ sym k
 
   -- a tie comes to the pair from one whose word is r
-  unfoldable pub comes : (ℕ → ℕ → ℕ) → ℕ → ℕ → ℕ → Bool
-  comes a r v q = anyBelow (ties N) (λ e. eqb (toOf N e) v and anyBelow (C .states) (λ p. leads N C e p q and eqb (a (fromOf N e) p) r))
-
-  pub comes-in : (a : ℕ → ℕ → ℕ) (r v q : ℕ) → Yes (comes a r v q) → (u : ℕ) × (p : ℕ) × Arc N C u p v q × (a u p ≡ r)
-  unfolding comes
-  comes-in a r v q t =
-      let (e, eh, x) = anyBelow-in _ _ t in
-      let (b, y) = and-in _ _ x in
-      let (p, _, z) = anyBelow-in _ _ y in
-      let (l, w) = and-in _ _ z in
-      (fromOf N e, p, record { tie = e; tie-in = eh; leaves = refl; arrives = eqb-true _ _ b; steps = l }, eqb-true _ _ w)
+  abbrev pub comes : (ℕ → ℕ → ℕ) → ℕ → ℕ → ℕ → Bool
+  comes a r v q = into N C (λ u p. eqb (a u p) r) v q
 
   module _ (ok : Sound N C) where
+    pub comes-in : (a : ℕ → ℕ → ℕ) (r v q : ℕ) → Yes (comes a r v q) → (u : ℕ) × (p : ℕ) × Arc N C u p v q × (a u p ≡ r)
+    comes-in a r v q t = let (u, p, x, w) = into-in N C ok (λ u p. eqb (a u p) r) v q t in (u, p, x, eqb-true (a u p) r w)
+
     pub comes-of : (a : ℕ → ℕ → ℕ) (r u p v q : ℕ) → Arc N C u p v q → a u p ≡ r → Yes (comes a r v q)
-    unfolding comes
-    comes-of a r u p v q x w =
-        anyBelow-of _ _ (x .tie) (x .tie-in)
-        (and-of (eqb-of (x .arrives)) (anyBelow-of _ _ p (leads-states N C ok (x .tie) p q (x .steps) .0) (and-of (x .steps) (eqb-of {n = r} (rw (x .leaves) w)))))
+    comes-of a r u p v q x w = into-of N C ok (λ u p. eqb (a u p) r) u p v q x (eqb-of {n = r} w)
 
     pub word-zero : (v q : ℕ) → word N C s 0 v q ≡ pick (eqb s v and starts C q) 0 unreached
     unfolding reach
@@ -89,12 +80,16 @@ module _ (N : Network) (C : Condition) (s : ℕ) where
         last t =
             let (u, p, x, y) = reach-suc N C ok s r v q t in
             let below = W u p .least r (omega arith) y in
-            ⊎-elim (λ e. inr (comes-of (word N C s r) r u p v q x e)) (λ (l : word N C s r u p < r). let z = W v q .least _ l (suc-reach N C ok s (word N C s r u p) u p v q x (W u p .met below)) in inl (omega arith)) (eq-or-lt-of-le below)
+            ⊎-elim
+            (λ e. inr (comes-of (word N C s r) r u p v q x e))
+            (λ (l : word N C s r u p < r). let z = W v q .least _ l (suc-reach N C ok s (word N C s r u p) u p v q x (W u p .met below)) in inl (omega arith))
+            (eq-or-lt-of-le below)
 
         none : r < word N C s r v q → (n : ℕ) → n ≤ r → Yes (reach N C s n v q) → ⊥
         none k n h t = let z = W v q .least n h t in omega arith
 
-        go : (t : Bool) → leb (word N C s r v q) r ≡ t → (f : Bool) → comes (word N C s r) r v q ≡ f → Word (suc r) v q (pick t (word N C s r v q) (pick f (suc r) unreached))
+        go : (t : Bool) → leb (word N C s r v q) r ≡ t → (f : Bool) → comes (word N C s r) r v q ≡ f
+            → Word (suc r) v q (pick t (word N C s r v q) (pick f (suc r) unreached))
         go true e f g =
             let k = leb-true (word N C s r v q) r e in
             let short : (n : ℕ) → n ≤ suc r → Yes (reach N C s n v q) → word N C s r v q ≤ n =
@@ -103,11 +98,19 @@ module _ (N : Network) (C : Condition) (s : ℕ) where
         go false e true g =
             let k = leb-false (word N C s r v q) r e in
             let (u, p, x, w) = comes-in (word N C s r) r v q g in
-            record { small = inl (omega arith); met = λ _. suc-reach N C ok s r u p v q x (rw w at (W u p .met (omega arith))); least = λ n h t. let no-less : ¬ (n ≤ r) = λ m. none k n m t in omega arith }
+            record {
+              small = inl (omega arith);
+              met = λ _. suc-reach N C ok s r u p v q x (rw w at (W u p .met (omega arith)));
+              least = λ n h t. let no-less : ¬ (n ≤ r) = λ m. none k n m t in omega arith;
+            }
         go false e false g =
             let k = leb-false (word N C s r v q) r e in
             let no-last : Yes (reach N C s (suc r) v q) → ⊥ = λ t. ⊎-elim (λ (m : word N C s r v q ≤ r). omega arith) (λ m. false≢true (sym g ∙ m)) (last t) in
-            record { small = inr refl; met = λ h. absurd (omega arith); least = λ n h t. absurd (⊎-elim (λ m. no-last (rw m at t)) (λ (m : n < suc r). none k n (omega arith) t) (eq-or-lt-of-le h)) }
+            record {
+              small = inr refl;
+              met = λ h. absurd (omega arith);
+              least = λ n h t. absurd (⊎-elim (λ m. no-last (rw m at t)) (λ (m : n < suc r). none k n (omega arith) t) (eq-or-lt-of-le h));
+            }
 
 module _ (N : Network) (C : Condition) (s r : ℕ) where
   -- the words a of the pairs, tested pair by pair and tie by tie
@@ -150,7 +153,7 @@ module _ (N : Network) (C : Condition) (s r : ℕ) where
             (u, p, x, omega arith)
 
     local-right : Local a → Right a
-    local-right L v q hv hq = one-word N C s r v q _ _ few (record { small = L .small v q hv hq; met = λ h. sound (a v q) v q hv hq refl h; least = λ n h t. complete n v q hv hq h t }) (word-is N C s r v q few)
+    local-right L v q hv hq = one-word N C s r v q _ _ few is (word-is N C s r v q few)
       where
         sound : (d v q : ℕ) → v < N .marks → q < C .states → a v q ≡ d → d ≤ r → Yes (reach N C s d v q)
         sound zero v q hv hq e h = reach-zero N C ok s v q .1 (L .begins v q hv hq .0 e)
@@ -167,6 +170,9 @@ module _ (N : Network) (C : Condition) (s r : ℕ) where
             let below = complete n u p hu hp (omega arith) y in
             let above = L .goes u p v q x (omega arith) in
             omega arith
+
+        is : Word N C s r v q (a v q)
+        is = record { small = L .small v q hv hq; met = λ h. sound (a v q) v q hv hq refl h; least = λ n h t. complete n v q hv hq h t }
 
     -- the local test is the definition, both ways
     pub local-law : Local a ↔ Right a

@@ -42,6 +42,10 @@ saidNext next.End = gives End
 saidNext (next.Refused n p) = refused (number n) p
 
 -- the promise: a call answered a and left the words w in its buffer, as its definition d says
-pub record Meets {A : Type 0} (d : Done A) (a : Answer A) (w : List ℕ) : Type 0 where
+pub record Meets {A B : Type 0} (d : Done A B) (a : Answer A) (w : B) : Type 0 where
   pub answers : a ≡ d .answer
   pub leaves : w ≡ d .left
+
+-- 01: "Two results that satisfy it are shown equal": as Rattle values R that `said` reads, and as what is left
+abbrev pub Unique : {A R : Type 0} → (R → Answer A) → Type 0 → Type 0
+Unique {A} {R} said B = (d : Done A B) (a b : R) (v w : B) → Meets d (said a) v → Meets d (said b) w → (a ≡ b) × (v ≡ w)

@@ -19,11 +19,15 @@ module _ (N : Network) (C : Condition) where
   unfoldable pub leads : ℕ → ℕ → ℕ → Bool
   leads e p q = anyBelow (N .kinds) (λ k. has (kindsOf N e) k and follows C p k q)
 
+  -- some tie leads to the mark v and the state q from a pair that passes
+  unfoldable pub into : (ℕ → ℕ → Bool) → ℕ → ℕ → Bool
+  into f v q = anyBelow (ties N) (λ e. eqb (toOf N e) v and anyBelow (C .states) (λ p. leads e p q and f (fromOf N e) p))
+
   module _ (s : ℕ) where
     -- some chain of length n from s to v reaches the state q: by its last tie
     unfoldable pub reach : ℕ → ℕ → ℕ → Bool
     reach zero v q = eqb s v and starts C q
-    reach (suc n) v q = anyBelow (ties N) (λ e. eqb (toOf N e) v and anyBelow (C .states) (λ p. leads e p q and reach n (fromOf N e) p))
+    reach (suc n) v q = into (λ u p. reach n u p) v q
 
     -- 01: "for each pair, the least length of a chain from s to v that reaches q if that is at most r, else 65,535"
     unfoldable pub word : ℕ → ℕ → ℕ → ℕ

@@ -1,5 +1,5 @@
 -- The starred cases of document 01, "Sessions at the desk", as one table. A word stands past the V×Q words of the area, and one past the
--- least length in the chain buffer where the case names no other buffer; both are seen to stay.
+-- least length in the chain buffer of every case that lists and names no other buffer; both are seen to stay.
 use Prim.Native.Nat.{ℕ}
 use mathlib.Core.List.{List, [], _∷_}
 use Rattle.walk.specs.declared.Move.{Move}
@@ -7,7 +7,7 @@ use Rattle.walk.specs.declared.Status.the-variants.{Found, None, Going}
 use Rattle.walk.specs.Network.{Network}
 use Rattle.walk.specs.Condition.{Condition}
 use Rattle.walk.specs.Question.{Question}
-use Rattle.walk.specs.Sessions.{Call, start, round, first, next, Heard, refused, after, chain, none, end, Step, Session}
+use Rattle.walk.specs.Sessions.{Call, start, round, first, next, ways-of, Heard, ways-are, refused, after, chain, none, end, Step, Session}
 
 abbrev pub step : Call → Heard → List ℕ → List ℕ → Step
 step k a w c = record { asked = k; heard = a; area = w; chain = c }
@@ -18,7 +18,7 @@ session D w c x = record { question = D; area = w; chain = c; steps = x }
 abbrev pub move : ℕ → ℕ → ℕ → Move
 move p k q = record { from = p; kind = k; to = q }
 
--- ---- network N, its condition and its question, with what the cases change in them
+-- network N, its condition and its question, with what the cases change in them
 abbrev pub netN : List ℕ → Network
 netN sets = record { marks = 4; kinds = 2; froms = 0 ∷ 0 ∷ 0 ∷ 1 ∷ 2 ∷ []; tos = 1 ∷ 1 ∷ 2 ∷ 3 ∷ 3 ∷ []; sets = sets }
 
@@ -38,7 +38,7 @@ N = ask (netN setsN) (condN 1) 0 3
 abbrev pub lone : Question
 lone = ask (netN setsN) (condN 1) 3 3
 
--- ---- its areas: as lent, and after no, one and two rounds
+-- its areas: as lent, and after no, one and two rounds
 abbrev pub x : ℕ
 x = 65535
 
@@ -92,12 +92,13 @@ starred =
     -- 2: after one round words 6 and 7 are 65535, status Going
     ∷ session N after0 o (
     step (round 0) (after 1 Going) after1 o ∷ [])
-    -- 3: the three chains, then End
+    -- 3: the three chains, then End; chain 0 3 can be met in four ways and stands once
     ∷ session N after2 o (
     step (first 2) chain after2 (buf 0 3)
     ∷ step (next 2) chain after2 (buf 1 3)
     ∷ step (next 2) chain after2 (buf 2 4)
-    ∷ step (next 2) end after2 (buf 2 4) ∷ [])
+    ∷ step (next 2) end after2 (buf 2 4)
+    ∷ step (ways-of (0 ∷ 3 ∷ [])) (ways-are 4) after2 (buf 2 4) ∷ [])
     -- 4: tie 0 emptied
     ∷ session (ask (netN (0 ∷ 2 ∷ 1 ∷ 3 ∷ 2 ∷ [])) (condN 1) 0 3) blank o (
     step start (after 0 Going) after0 o

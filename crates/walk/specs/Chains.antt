@@ -1,7 +1,7 @@
 -- The list: all matching chains of one length, in the order.
 use Prim.Native.Nat.{ℕ, zero, suc}
 use mathlib.Core.Bool.{Bool, false, _||_}
-use mathlib.Core.List.{List, [], _∷_, _++_, map}
+use mathlib.Core.List.{List, [], _∷_, flatMap}
 use mathlib.Core.Option.{Option, none, some}
 use lib.Dec.{ltb, eqb}
 use Rattle.walk.specs.Numbers.{has, _and_, pick, anyBelow, table, setBelow, same}
@@ -17,13 +17,9 @@ before (x ∷ xs) [] = false
 before (x ∷ xs) (y ∷ ys) = before xs ys || (same xs ys and ltb x y)
 
 -- all rows of n numbers below b in the order: each first number before each shorter row, the first number varying fastest
-unfoldable pub joined : List (List (List ℕ)) → List (List ℕ)
-joined [] = []
-joined (x ∷ xs) = x ++ joined xs
-
 unfoldable pub rows : ℕ → ℕ → List (List ℕ)
 rows b zero = [] ∷ []
-rows b (suc n) = joined (map (λ c. table b (λ e. e ∷ c)) (rows b n))
+rows b (suc n) = flatMap (λ c. table b (λ e. e ∷ c)) (rows b n)
 
 -- those rows of a list that pass, in their order
 unfoldable pub sieve : (List ℕ → Bool) → List (List ℕ) → List (List ℕ)
@@ -57,10 +53,10 @@ module _ (N : Network) (C : Condition) where
   reached S [] = S
   reached S (e ∷ c) = reached (along S e) c
 
-  -- the chain c joins s to t and matches: the start states carried along it hold an accepting one
-  unfoldable pub matches : ℕ → ℕ → List ℕ → Bool
-  matches s t c = joins s c t and anyBelow (C .states) (λ q. accepts C q and has (reached (setBelow (C .states) (starts C)) c) q)
+  -- the chain c goes from s to t and matches: the start states carried along it hold an accepting one
+  unfoldable pub fits : ℕ → ℕ → List ℕ → Bool
+  fits s t c = joins s c t and anyBelow (C .states) (λ q. accepts C q and has (reached (setBelow (C .states) (starts C)) c) q)
 
   -- all matching chains of length n from s to t, in the order
   unfoldable pub list : ℕ → ℕ → ℕ → List (List ℕ)
-  list s t n = sieve (matches s t) (rows (ties N) n)
+  list s t n = sieve (fits s t) (rows (ties N) n)

@@ -4,19 +4,20 @@ use mathlib.Core.Path.{_≡_}
 use mathlib.Core.Bool.{true, false}
 use mathlib.Core.List.{List, [], _∷_, _++_, List·Memᴰ}
 use mathlib.Core.Logic.{_↔_, _⊎_}
-use lib.ListN.{length, getD, drop}
+use lib.ListN.{length, getD, take, drop}
 use Rattle.walk.specs.declared.Status.{Status}
 use Rattle.walk.specs.declared.Status.the-variants.{Found, None, Going}
 use Rattle.walk.specs.Ceilings.{ceilings}
-use Rattle.walk.specs.Network.{Network, usable}
-use Rattle.walk.specs.Condition.{Condition}
+use Rattle.walk.specs.Numbers.{has}
+use Rattle.walk.specs.Network.{Network, ties, fromOf, toOf, kindsOf}
+use Rattle.walk.specs.Condition.{Condition, moveAt}
 use Rattle.walk.specs.Walk.{Fits, LeastReaching, LeastMatching, Listed}
 use Rattle.walk.specs.Chains.{before}
-use Rattle.walk.specs.Question.{Question, pairs, listing}
-use Rattle.walk.specs.Refusals.{Row, number, start-tests, round-tests, first-tests, next-tests}
-use Rattle.walk.specs.Calls.{Progress, refused, Chain, End, Done, leave, start, round, first, next}
+use Rattle.walk.specs.Question.{Question, usable, pairs, status, listing}
+use Rattle.walk.specs.Refusals.{Row, number, shortArea, wrongArea, unfinished, shortChain, notListed, lent-tests, start-tests, round-tests, first-tests, next-tests}
+use Rattle.walk.specs.Calls.{refused, Progress, Chain, NoChain, End, Done, leave, start, round, first, next}
 
--- ---- demand 1: "Bad input is refused by number, in the fixed order of the rules, and a refusal changes nothing in any buffer lent to it."
+-- the words of the demands
 abbrev pub NoneGiven : List Row → Type 0
 NoneGiven l = (x : Row) → List·Memᴰ x l → x .given ≡ false
 
@@ -28,25 +29,12 @@ pub record FirstGiven (l : List Row) (x : Row) : Type 0 where
   pub passed : NoneGiven earlier
   pub given : x .given ≡ true
 
--- the call's answer is a refusal exactly when a row of its list is given: the first such row's number and place; then the buffer is as it
--- was lent
-pub record Refuses {A : Type 0} (l : List Row) (buffer : List ℕ) (d : Done A) : Type 0 where
+-- the call's answer is a refusal exactly when a row of its list is given: the first such row's number and place; then what it may write is
+-- as it was lent
+pub record Refuses {A B : Type 0} (l : List Row) (lent : B) (d : Done A B) : Type 0 where
   pub exactly : (n p : ℕ) → (d .answer ≡ refused n p)
       ↔ ((x : Row) × FirstGiven l x × (number (x .name) ≡ n) × (x .place ≡ p))
-  pub stays : (n p : ℕ) → d .answer ≡ refused n p → d .left ≡ buffer
-
-pub record Demand1 (D : Question) (r : ℕ) (w c : List ℕ) : Type 0 where
-  pub of-start : Refuses (start-tests D w) w (start D w)
-  pub of-round : Refuses (round-tests D r w) w (round D r w)
-  pub of-first : Refuses (first-tests D r w c) c (first D r w c)
-  pub of-next : Refuses (next-tests D r w c) c (next D r w c)
-
--- n rounds were made from start on the area w, each on what the call before left and while that said Going; the last answer was the count m
--- with the status S, and the area is a
-pub data Made (D : Question) (w : List ℕ) : ℕ → ℕ → Status → List ℕ → Type 0 where
-  begun : {m : ℕ} {S : Status} {a : List ℕ} → start D w ≡ leave (record { done = m; status = S }) a → Made D w 0 m S a
-  again : {n m k : ℕ} {S : Status} {a b : List ℕ} → Made D w n m Going a
-      → round D m a ≡ leave (record { done = k; status = S }) b → Made D w (suc n) k S b
+  pub stays : (n p : ℕ) → d .answer ≡ refused n p → d .left ≡ lent
 
 abbrev pub Finished : Status → Type 0
 Finished S = S ≡ Going → ⊥
@@ -57,67 +45,122 @@ Rises [] = Unit {0}
 Rises (x ∷ xs) = ((y : List ℕ) → List·Memᴰ y xs → before x y ≡ true) × Rises xs
 
 module _ (D : Question) where
+  -- the network as it is lent, as a chain may use it, and the condition
+  abbrev lent : Network
+  lent = D .network
+
   abbrev N : Network
-  N = usable (D .network)
+  N = usable D
 
   abbrev C : Condition
   C = D .condition
 
-  -- ---- demand 2: "the area holds, for every mark and state, the least number of ties that reaches it if that is at most r, and otherwise
-  -- the mark for unreached. Carried to its finish, preparation says "none" exactly when no chain from the one mark to the other meets the
-  -- condition as the walk paper defines it, and otherwise gives the least length."
+  -- none of refusals 1 to 6 has a reason: what the table's sentences rule out
+  pub record Accepted : Type 0 where
+    pub marks : (1 ≤ lent .marks) × (lent .marks ≤ ceilings .marks)
+    pub kinds : (1 ≤ lent .kinds) × (lent .kinds ≤ ceilings .kinds)
+    pub few-ties : ties lent ≤ ceilings .ties
+    pub columns : (length (lent .tos) ≡ ties lent) × (length (lent .sets) ≡ ties lent)
+    pub tie : (e : ℕ) → e < ties lent → (fromOf lent e < lent .marks) × (toOf lent e < lent .marks)
+    pub kind : (e k : ℕ) → e < ties lent → has (kindsOf lent e) k ≡ true → k < lent .kinds
+    pub rising : (e : ℕ) → suc e < ties lent → toOf lent e ≤ toOf lent (suc e)
+    pub states : (1 ≤ C .states) × (C .states ≤ ceilings .states)
+    pub few-moves : length (C .moves) ≤ ceilings .moves
+    pub start : (q : ℕ) → has (C .start) q ≡ true → q < C .states
+    pub accept : (q : ℕ) → has (C .accept) q ≡ true → q < C .states
+    pub move : (j : ℕ) → j < length (C .moves) → (moveAt C j .from < C .states) × (moveAt C j .kind < lent .kinds) × (moveAt C j .to < C .states)
+    pub ends : (D .from < lent .marks) × (D .to < lent .marks)
+
+  -- the word x of a pair is its least length, if that is at most n, and else 65,535; and all words of the area a are such
   abbrev pub RightWord : ℕ → ℕ → ℕ → ℕ → Type 0
   RightWord n v q x =
       ((x ≤ n) × LeastReaching N C (D .from) v q x)
       ⊎ ((x ≡ ceilings .unreached) × ((d : ℕ) → LeastReaching N C (D .from) v q d → n < d))
 
+  abbrev pub RightArea : ℕ → List ℕ → Type 0
+  RightArea n a = (v q : ℕ) → v < N .marks → q < C .states → RightWord n v q (getD a (v * C .states + q) 0)
+
   abbrev pub NoMatch : Type 0
   NoMatch = (c : List ℕ) → Fits N C (D .from) (D .to) c → ⊥
 
-  pub record RightAfter (w : List ℕ) (n : ℕ) (S : Status) (a : List ℕ) : Type 0 where
-    pub words : (v q : ℕ) → v < N .marks → q < C .states → RightWord n v q (getD a (v * C .states + q) 0)
+  -- some pair has the least length r
+  abbrev pub PairAt : ℕ → Type 0
+  PairAt r = (v : ℕ) × (q : ℕ) × (v < N .marks) × (q < C .states) × LeastReaching N C (D .from) v q r
+
+  -- demand 1: "Bad input is refused by number, in the fixed order of the rules, and a refusal changes nothing in any buffer lent to it."
+  -- Each call refuses by its rows, and the rows are given when the table says
+  pub record Demand1 (r : ℕ) (w c : List ℕ) : Type 0 where
+    pub of-start : Refuses (start-tests D w) w (start D w)
+    pub of-round : Refuses (round-tests D r w) w (round D r w)
+    pub of-first : Refuses (first-tests D r w c) c (first D r w c)
+    pub of-next : Refuses (next-tests D r w c) c (next D r w c)
+    pub accepted : NoneGiven (lent-tests D) ↔ Accepted
+    pub room : (shortArea D w .given ≡ false) ↔ (pairs D ≤ length w)
+    pub right : Accepted → pairs D ≤ length w → (wrongArea D r w .given ≡ false) ↔ ((r ≤ pairs D) × RightArea r w)
+    pub finished : (unfinished D r .given ≡ false) ↔ Finished (status D r)
+    pub chain-room : (n : ℕ) → status D r ≡ Found n → (shortChain D r c .given ≡ false) ↔ (n ≤ length c)
+    pub listed : Accepted → r ≤ pairs D
+        → (notListed D r c .given ≡ false) ↔ ((n : ℕ) × (status D r ≡ Found n) × Listed N C (D .from) (D .to) (take n c))
+
+  -- demand 2: "After r rounds of preparation, none of them made once it had finished, the area holds, for every mark and state, the
+  -- least number of ties that reaches it if that is at most r, and otherwise the mark for unreached. Carried to its finish, preparation says
+  -- "none" exactly when no chain from the one mark to the other meets the condition as the walk paper defines it, and otherwise gives the
+  -- least length."
+  -- what a status says, at any count
+  pub record StatusIs (r : ℕ) : Type 0 where
+    pub found : (d : ℕ) → (status D r ≡ Found d) ↔ ((d ≤ r) × LeastMatching N C (D .from) (D .to) d)
+    pub none : (status D r ≡ None) ↔ (NoMatch × (PairAt r → ⊥))
+    pub going : (status D r ≡ Going) ↔ (((c : List ℕ) → Fits N C (D .from) (D .to) c → r < length c) × PairAt r)
+
+  -- n rounds were made from start on the area w, each on what the call before left and while that said Going; the last answer was p, and the
+  -- area is a
+  pub data Made (w : List ℕ) : ℕ → Progress → List ℕ → Type 0 where
+    begun : {p : Progress} {a : List ℕ} → start D w ≡ leave p a → Made w 0 p a
+    again : {n : ℕ} {p q : Progress} {a b : List ℕ} → Made w n p a → p .status ≡ Going → round D (p .done) a ≡ leave q b → Made w (suc n) q b
+
+  pub record RightAfter (w : List ℕ) (n : ℕ) (p : Progress) (a : List ℕ) : Type 0 where
+    pub words : RightArea n a
     pub rest : drop (pairs D) a ≡ drop (pairs D) w
     pub long : length a ≡ length w
     -- 01: "A least length is at most V×Q - 1, so at most 32,767"
-    pub bounded : (v q d : ℕ) → v < N .marks → q < C .states → LeastReaching N C (D .from) v q d → d < pairs D
+    pub bounded : (d : ℕ) → PairAt d → d < pairs D
+    pub short : (d : ℕ) → LeastMatching N C (D .from) (D .to) d → d < pairs D
     pub ceiling : pairs D ≤ ceilings .words
-    pub none : Finished S → (S ≡ None) ↔ NoMatch
-    pub found : Finished S → (d : ℕ) → (S ≡ Found d) ↔ LeastMatching N C (D .from) (D .to) d
+    pub none : Finished (p .status) → (p .status ≡ None) ↔ NoMatch
+    pub found : Finished (p .status) → (d : ℕ) → (p .status ≡ Found d) ↔ LeastMatching N C (D .from) (D .to) d
+    -- 01: "A round on a Found or None area changes nothing and gives the same count and status."
+    pub idle : Finished (p .status) → round D (p .done) a ≡ leave p a
 
   -- a preparation that has come to its finish
   pub record Finish (w : List ℕ) : Type 0 where
     pub rounds : ℕ
-    pub count : ℕ
-    pub status : Status
+    pub last : Progress
     pub area : List ℕ
-    pub made : Made D w rounds count status area
-    pub finished : Finished status
+    pub made : Made w rounds last area
+    pub finished : Finished (last .status)
 
   -- every preparation is right, and wherever start is not refused one comes to its finish
   pub record Demand2 (w : List ℕ) : Type 0 where
-    pub right : (n m : ℕ) (S : Status) (a : List ℕ) → Made D w n m S a → RightAfter w n S a
+    pub status-is : Accepted → (r : ℕ) → r ≤ pairs D → StatusIs r
+    pub right : (n : ℕ) (p : Progress) (a : List ℕ) → Made w n p a → RightAfter w n p a
     pub finish : (p : Progress) (b : List ℕ) → start D w ≡ leave p b → Finish w
 
-  -- ---- the count rule. 01: "If a match exists, the count when Found first shows equals its least length. If none exists, the count when
+  -- the count rule. 01: "If a match exists, the count when Found first shows equals its least length. If none exists, the count when
   -- None first shows is 0 with no reached pair, otherwise 1 plus the greatest least length of any reached pair; it is never above V×Q. So
   -- at the first Found or None of a preparation begun by start, the reported count equals the number of rounds the definition needs."
-  abbrev pub NoPair : Type 0
-  NoPair = (v q d : ℕ) → v < N .marks → q < C .states → LeastReaching N C (D .from) v q d → ⊥
-
-  pub record Greatest (d : ℕ) : Type 0 where
-    pub met : (v : ℕ) × (q : ℕ) × (v < N .marks) × (q < C .states) × LeastReaching N C (D .from) v q d
-    pub most : (v q e : ℕ) → v < N .marks → q < C .states → LeastReaching N C (D .from) v q e → e ≤ d
-
-  pub record Counted (n m : ℕ) (S : Status) : Type 0 where
-    pub made : m ≡ n
-    pub found : (d : ℕ) → S ≡ Found d → m ≡ d
-    pub none : S ≡ None → ((m ≡ 0) × NoPair) ⊎ ((d : ℕ) × (m ≡ suc d) × Greatest d)
-    pub within : m ≤ pairs D
+  pub record Counted (n : ℕ) (p : Progress) : Type 0 where
+    pub made : p .done ≡ n
+    pub found : (d : ℕ) → p .status ≡ Found d → p .done ≡ d
+    pub none : p .status ≡ None
+        → ((p .done ≡ 0) × ((d : ℕ) → PairAt d → ⊥))
+        ⊎ ((d : ℕ) × (p .done ≡ suc d) × PairAt d × ((e : ℕ) → PairAt e → e ≤ d))
+    pub within : p .done ≤ pairs D
 
   abbrev pub CountRule : List ℕ → Type 0
-  CountRule w = (n m : ℕ) (S : Status) (a : List ℕ) → Made D w n m S a → Counted n m S
+  CountRule w = (n : ℕ) (p : Progress) (a : List ℕ) → Made w n p a → Counted n p
 
-  -- ---- demand 3: "asking for the first chain and handing each one back for the next yields every matching chain of least length, each
+  -- demand 3: "With the preparation finished, a chain found, room for one chain, and network, condition, marks, area and the count of
+  -- rounds unchanged, asking for the first chain and handing each one back for the next yields every matching chain of least length, each
   -- exactly once, nothing else, in order of tie number compared from the last tie backwards, and then "end". Any chain of that list, handed
   -- back at any time, gets the one after it, and the last gets "end"."
   -- next, handed the chain c in front of x and then each chain that it puts there, gives the chains l and then End; x stays
@@ -127,22 +170,24 @@ module _ (D : Question) where
         → Yields r a x y l → Yields r a x c (y ∷ l)
 
   -- first on the buffer b gives a chain, and handing each one back gives the others and then End; together they are the list
-  pub record Session (r : ℕ) (a : List ℕ) (n : ℕ) (b : List ℕ) : Type 0 where
+  pub record Asking (r : ℕ) (a : List ℕ) (n : ℕ) (b : List ℕ) : Type 0 where
     pub chain : List ℕ
     pub others : List (List ℕ)
     pub begins : first D r a b ≡ leave Chain (chain ++ drop n b)
     pub goes-on : Yields r a (drop n b) chain others
     pub whole : listing D n ≡ chain ∷ others
 
-  -- the list of chains of least length n, with the count r and the area a: what it holds, its order, the session that asks for all of it, and
+  -- the list of chains of least length n, with the count r and the area a: what it holds, its order, that asking for all of it gives it, and
   -- what any of its chains gets that is handed back in front of any x
   pub record Lists (r : ℕ) (a : List ℕ) (n : ℕ) : Type 0 where
     pub all : (c : List ℕ) → List·Memᴰ c (listing D n) ↔ Listed N C (D .from) (D .to) c
     pub rises : Rises (listing D n)
     pub once : (xs ys : List (List ℕ)) (c : List ℕ) → listing D n ≡ xs ++ (c ∷ ys) → (List·Memᴰ c xs → ⊥) × (List·Memᴰ c ys → ⊥)
-    pub session : (b : List ℕ) → n ≤ length b → Session r a n b
+    pub asking : (b : List ℕ) → n ≤ length b → Asking r a n b
     pub after : (xs ys : List (List ℕ)) (c y x : List ℕ) → listing D n ≡ xs ++ (c ∷ (y ∷ ys)) → next D r a (c ++ x) ≡ leave Chain (y ++ x)
     pub last : (xs : List (List ℕ)) (c x : List ℕ) → listing D n ≡ xs ++ (c ∷ []) → next D r a (c ++ x) ≡ leave End (c ++ x)
 
-  abbrev pub Demand3 : List ℕ → Type 0
-  Demand3 w = (n m d : ℕ) (a : List ℕ) → Made D w n m (Found d) a → Lists m a d
+  -- finished is what a round leaves as it is, whatever the count: Found gives the list, and None no chain
+  pub record Demand3 : Type 0 where
+    pub found : (n : ℕ) (p : Progress) (a : List ℕ) → round D (p .done) a ≡ leave p a → p .status ≡ Found n → Lists (p .done) a n
+    pub none : (p : Progress) (a b : List ℕ) → round D (p .done) a ≡ leave p a → p .status ≡ None → first D (p .done) a b ≡ leave NoChain b

@@ -13,3 +13,4 @@ pub mod Demands
 pub mod Sessions
 pub mod Cases
 pub mod OwnCases
+pub mod Claims

@@ -1,4 +1,4 @@
--- Networks, as they are lent and as a chain may use them. (000, definition 3)
+-- Networks, as they are lent. (000, definition 3)
 use Prim.Native.Nat.{ℕ}
 use mathlib.Core.List.{List}
 use lib.ListN.{length, getD}
@@ -26,8 +26,3 @@ module _ (N : Network) where
 
   abbrev pub kindsOf : ℕ → ℕ
   kindsOf e = getD (N .sets) e 0
-
--- The network as a chain may use it: every tie, as it is lent. The tests of what is lent look at the network itself; area, status and
--- list look at this.
-unfoldable pub usable : Network → Network
-usable N = N

@@ -9,16 +9,21 @@ use Rattle.walk.specs.Question.{Question}
 use Rattle.walk.specs.Sessions.{start, round, first, next, refused, chain, none, end, after, Session}
 use Rattle.walk.specs.Cases.{step, session, move, ask, netN, setsN, condN, N, x, blank, after0, after1, after2, buf, o}
 
--- a network of the ties from, to, kinds, with V marks and K kinds, under one state that starts and accepts and follows itself under kind 0
+-- a network of V marks, K kinds and three columns
 abbrev net : ℕ → ℕ → List ℕ → List ℕ → List ℕ → Network
 net v k f t s = record { marks = v; kinds = k; froms = f; tos = t; sets = s }
 
+-- one state that starts and accepts and follows itself under kind 0
 abbrev any : Condition
 any = record { states = 1; start = 1; accept = 1; moves = move 0 0 0 ∷ [] }
 
 -- two chains, 1 2 and 0 3: from the last tie 1 2 comes first, from the first tie it would be 0 3
 abbrev pub crossed : Question
 crossed = ask (net 4 1 (0 ∷ 0 ∷ 2 ∷ 1 ∷ []) (1 ∷ 2 ∷ 3 ∷ 3 ∷ []) (1 ∷ 1 ∷ 1 ∷ 1 ∷ [])) any 0 3
+
+-- one chain, 1, of least length 1; with more rounds mark 1 is reached too, by two ties, and tie 2 leads from it to t
+abbrev farther : Question
+farther = ask (net 3 1 (2 ∷ 0 ∷ 1 ∷ []) (1 ∷ 2 ∷ 2 ∷ []) (1 ∷ 1 ∷ 1 ∷ [])) any 0 2
 
 -- N with other sizes, ties, condition or marks
 abbrev sized : ℕ → ℕ → List ℕ → Question
@@ -61,6 +66,10 @@ own =
     step (first 2) chain (0 ∷ 1 ∷ 1 ∷ 2 ∷ []) (buf 1 2)
     ∷ step (next 2) chain (0 ∷ 1 ∷ 1 ∷ 2 ∷ []) (buf 0 3)
     ∷ step (next 2) end (0 ∷ 1 ∷ 1 ∷ 2 ∷ []) (buf 0 3) ∷ [])
+    -- a pair that is reached, but is not exactly one shorter, is no way back
+    ∷ session farther (0 ∷ 2 ∷ 1 ∷ []) o (
+    step (first 3) chain (0 ∷ 2 ∷ 1 ∷ []) (1 ∷ 9 ∷ 9 ∷ [])
+    ∷ step (next 3) end (0 ∷ 2 ∷ 1 ∷ []) (1 ∷ 9 ∷ 9 ∷ []) ∷ [])
     -- next on None is 11, first says None; both with no room for a chain
     ∷ session (ask (netN setsN) (condN 0) 0 3) (replicate 8 x) [] (
     step (next 0) (refused 11 0) (replicate 8 x) []
@@ -113,7 +122,7 @@ own =
     ∷ refusal (tied (0 ∷ 0 ∷ 0 ∷ 1 ∷ 2 ∷ []) (1 ∷ 1 ∷ 2 ∷ 3 ∷ 3 ∷ []) 33) blank 4 0
     ∷ refusal (moved 1 2 2 4) blank 5 1
     ∷ refusal (moved 1 2 1 4) (7 ∷ []) 6 0
-    -- 7 and 8, 8 and 9, 9 and 10, 10 and 11
+    -- 7 and 8, 8 and 9, 9 and 11 with a buffer of no word (9 and 10 exclude each other), 10 and 11
     ∷ session N (7 ∷ []) o (
     step (round 9) (refused 7 8) (7 ∷ []) o ∷ [])
     ∷ session N after0 [] (

@@ -1,6 +1,6 @@
 -- The table of refusals: each row with its name, when it is given, and its place; and the rows that each call tests, in order.
 use Prim.Native.Nat.{ℕ, _-_}
-use mathlib.Core.Bool.{Bool, true, false, not, _||_}
+use mathlib.Core.Bool.{Bool, true, false, not}
 use mathlib.Core.List.{List, [], _∷_, _++_}
 use lib.Dec.{leb, ltb, eqb}
 use lib.ListN.{length, take}
@@ -51,11 +51,6 @@ abbrev pub isGoing : Status → Bool
 isGoing (Found n) = false
 isGoing None = false
 isGoing Going = true
-
-abbrev pub isNone : Status → Bool
-isNone (Found n) = false
-isNone None = true
-isNone Going = false
 
 -- the least length; with none found 0, which no buffer is shorter than
 abbrev pub lengthOf : Status → ℕ
@@ -121,9 +116,13 @@ module _ (D : Question) where
   shortChain r c = row ShortChain (ltb (length c) (lengthOf (status D r))) (lengthOf (status D r))
 
   -- "next, when the chain handed in is no listed chain, or status None"
+  abbrev pub unlisted : List ℕ → Status → Bool
+  unlisted c (Found n) = not (member (take n c) (listing D n))
+  unlisted c None = true
+  unlisted c Going = true
+
   unfoldable pub notListed : ℕ → List ℕ → Row
-  notListed r c =
-      let n = lengthOf (status D r) in row NotListed (isNone (status D r) || not (member (take n c) (listing D n))) 0
+  notListed r c = row NotListed (unlisted c (status D r)) 0
 
   -- 01: "Start gives 1 to 7, a round 1 to 8, first 1 to 10, next all." The first six look at no buffer.
   unfoldable pub lent-tests : List Row
@@ -135,8 +134,12 @@ module _ (D : Question) where
   unfoldable pub round-tests : ℕ → List ℕ → List Row
   round-tests r w = start-tests w ++ (wrongArea r w ∷ [])
 
+  -- 1 to 9
+  unfoldable pub list-tests : ℕ → List ℕ → List Row
+  list-tests r w = round-tests r w ++ (unfinished r ∷ [])
+
   unfoldable pub first-tests : ℕ → List ℕ → List ℕ → List Row
-  first-tests r w c = round-tests r w ++ (unfinished r ∷ shortChain r c ∷ [])
+  first-tests r w c = list-tests r w ++ (shortChain r c ∷ [])
 
   unfoldable pub next-tests : ℕ → List ℕ → List ℕ → List Row
   next-tests r w c = first-tests r w c ++ (notListed r c ∷ [])
