@@ -17,7 +17,7 @@ use Rattle.walk.specs.Walk.{Listed}
 use Rattle.walk.specs.Area as Area
 use Rattle.walk.specs.Chains.{firstOf, afterOf}
 use Rattle.walk.specs.Question.{Question, usable, pairs, right, status, listing}
-use Rattle.walk.specs.Refusals.{Row, number, isGoing, unlisted, shortArea, wrongArea, unfinished, shortChain, notListed, start-tests, round-tests, first-tests, next-tests}
+use Rattle.walk.specs.Refusals.{Row, number, isGoing, unlisted, wrongArea, unfinished, shortChain, notListed, start-tests, round-tests, first-tests, next-tests}
 use Rattle.walk.specs.Calls.{refused, gives, Reply, NoChain, End, Done, judged, prepared, put, earliest, later, start, round, first, next}
 use Rattle.walk.specs.Demands.{NoneGiven, FirstGiven, Refuses, Accepted, Finished, RightWord, RightArea, Demand1}
 use Rattle.walk.proofs.Numbers.{Yes, clash, FirstAt, first-below}
@@ -26,7 +26,7 @@ use Rattle.walk.proofs.Areas.{at, area-right}
 use Rattle.walk.proofs.Lengths.{leastTo-law}
 use Rattle.walk.proofs.Order.{member-law}
 use Rattle.walk.proofs.Listings.{listed-law}
-use Rattle.walk.proofs.Refusals.{first-or-none, judged-none, judged-first, Ready, accepted-law, ready, area-tested}
+use Rattle.walk.proofs.Refusals.{first-or-none, judged-none, judged-first, Ready, ready, row-1, row-2, row-3, row-4, row-5, row-6, row-7, area-tested}
 use Rattle.walk.proofs.Demand2.{word-right, found-says}
 
 module _ {A B : Type 0} (l : List Row) (w : B) (d : Done A B) (found : (a : A) × (d .answer ≡ gives a)) where
@@ -131,16 +131,21 @@ module _ (D : Question) (r : ℕ) (w c : List ℕ) where
   later-gives Going = (_, refl)
 
   pub demand-1 : Demand1 D r w c
-  unfolding start round first next prepared shortArea unfinished shortChain
+  unfolding start round first next prepared wrongArea unfinished shortChain notListed
   demand-1 = record {
     of-start = judge (start-tests D w) w (prepared D 0 w) (_, refl);
     of-round = judge (round-tests D r w) w _ (picked-gives (isGoing (status D r)) _ _ (_, refl) (_, refl));
     of-first = judge (first-tests D r w c) c _ (earliest-gives (status D r));
     of-next = judge (next-tests D r w c) c _ (later-gives (status D r));
-    accepted = accepted-law D;
-    room = (λ e. ltb-false (length w) (pairs D) e, λ h. le-ltb (length w) (pairs D) h);
-    right = λ A long. words-right D A r w long;
-    finished = going-given (status D r);
-    chain-room = λ n e. (λ f. ltb-false (length c) n (rw e at f), λ h. rw e (le-ltb (length c) n h));
-    listed = λ A h. chain-listed D A r c h;
+    row-1 = row-1 D;
+    row-2 = row-2 D;
+    row-3 = row-3 D;
+    row-4 = row-4 D;
+    row-5 = row-5 D;
+    row-6 = row-6 D;
+    row-7 = row-7 D w;
+    row-8 = λ A long. record { numbered = refl; passes = words-right D A r w long; placed = refl };
+    row-9 = record { numbered = refl; passes = going-given (status D r); placed = refl };
+    row-10 = λ n e. record { numbered = refl; passes = (λ f. ltb-false (length c) n (rw e at f), λ h. rw e (le-ltb (length c) n h)); placed = rw e };
+    row-11 = λ A h. record { numbered = refl; passes = chain-listed D A r c h; placed = refl };
   }

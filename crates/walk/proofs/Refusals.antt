@@ -1,7 +1,7 @@
 -- The table of refusals: the first row of a call's list that is given answers, with its number and place; where none is given the call does its
 -- work. Each row is given exactly when the table says, so an accepted question is one that refusals 1 to 6 have no reason for.
 use Prim.Native.Nat.{ℕ, zero, suc, _+_, _-_, _≤_, _<_}
-use mathlib.Core.Path.{_≡_, refl, sym, _∙_, ap}
+use mathlib.Core.Path.{_≡_, refl, sym, _∙_, subst, ap}
 use mathlib.Core.Bool.{Bool, true, false, false≢true, not}
 use mathlib.Mathlib.Data.Bool.Basic.{bool-eq-false}
 use mathlib.Core.List.{List, [], _∷_, _++_, List·Memᴰ·head, List·Memᴰ·tail, List·Memᴰ·not-nil, List·Memᴰ·cases-cons, List·Memᴰ·append-cases, List·Memᴰ·eq-of-singleton, Memᴰ·append-left, Memᴰ·append-right}
@@ -15,13 +15,13 @@ use Rattle.walk.specs.declared.Refusal.{Refusal}
 use Rattle.walk.specs.declared.Refusal.the-variants.{BadTie, TieOrder, BadMove}
 use Rattle.walk.specs.Ceilings.{ceilings}
 use Rattle.walk.specs.Numbers.{has, _and_, least, onlyBelow}
-use Rattle.walk.specs.Network.{Network, ties, fromOf, toOf, kindsOf}
+use Rattle.walk.specs.Network.{Network, ties, toOf, kindsOf}
 use Rattle.walk.specs.Condition.{Condition, moveAt, starts, accepts, follows}
 use Rattle.walk.specs.Question.{Question, pairs, right, usable}
 use Rattle.walk.specs.Refusals.{Row, atFirst, number, sizes, badTie, tieOrder, badCondition, badMove, badEnds, shortArea, wrongArea, lent-tests, start-tests, round-tests}
 use Rattle.walk.specs.Calls.{refused, Done, judged}
-use Rattle.walk.specs.Demands.{NoneGiven, FirstGiven, Accepted}
-use Rattle.walk.proofs.Numbers.{Yes, and-in, and-of, eqb-of, anyBelow-in, least-is, same-eq, same-of}
+use Rattle.walk.specs.Demands.{NoneGiven, FirstGiven, Says, SaysFirst, SizesRight, TieRight, InOrder, ConditionRight, MoveRight, Accepted}
+use Rattle.walk.proofs.Numbers.{Yes, and-in, and-of, eqb-of, anyBelow-in, Least, least-is, same-eq, same-of}
 use Rattle.walk.proofs.Sets.{zero-has, has-below, below-has}
 use Rattle.walk.proofs.Executable.{Sound}
 use Rattle.walk.proofs.Words.{Local, local-law}
@@ -73,12 +73,19 @@ module _ {A B : Type 0} (w : B) (d : Done A B) where
   judged-first l x F = rw (F .stands) (judged-at (F .earlier) (F .later) x (F .passed) (F .given))
 
 -- what the rows say
--- a row that asks each of n places is not given exactly where none is bad
-at-first : (x : Refusal) (n : ℕ) (bad : ℕ → Bool) → (atFirst x n bad .given ≡ false) ↔ ((i : ℕ) → i < n → bad i ≡ false)
-at-first x n bad = (
-  λ e i h. bool-eq-false (λ b. least-is bad n .none-before i (let l = ltb-false (least bad n) n e in omega arith) b),
-  λ h. bool-eq-false (λ t. let l = ltb-true (least bad n) n t in false≢true (sym (h (least bad n) l) ∙ least-is bad n .passes l)),
-)
+-- a row that asks each of n places
+asks-each : (x : Refusal) (n : ℕ) (bad : ℕ → Bool) (ok : ℕ → Type 0) → ((i : ℕ) → (bad i ≡ false) ↔ ok i) → SaysFirst (number x) n ok (atFirst x n bad)
+asks-each x n bad ok law = record {
+  numbered = refl;
+  passes = (
+    λ e i h. law i .0 (bool-eq-false (λ b. L .none-before i (let l = ltb-false (least bad n) n e in omega arith) b)),
+    λ h. bool-eq-false (λ t. let l = ltb-true (least bad n) n t in false≢true (sym (law (least bad n) .1 (h (least bad n) l)) ∙ L .passes l)),
+  );
+  first-such = λ g. (let l = ltb-true (least bad n) n g in (l, λ k. false≢true (sym (law (least bad n) .1 k) ∙ L .passes l), λ i h. law i .0 (bool-eq-false (λ b. L .none-before i h b))));
+}
+  where
+    L : Least bad n (least bad n)
+    L = least-is bad n
 
 -- a test that is negated is not given exactly where it passes
 not-given : (t : Bool) → (not t ≡ false) ↔ Yes t
@@ -105,7 +112,7 @@ module _ (D : Question) where
   C = D .condition
 
   -- refusals 1 to 6, each in the words of the table
-  sizes-law : (sizes D .given ≡ false) ↔ (((1 ≤ N .marks) × (N .marks ≤ ceilings .marks)) × ((1 ≤ N .kinds) × (N .kinds ≤ ceilings .kinds)) × (ties N ≤ ceilings .ties) × ((length (N .tos) ≡ ties N) × (length (N .sets) ≡ ties N)))
+  sizes-law : (sizes D .given ≡ false) ↔ SizesRight D
   unfolding sizes
   sizes-law = (
     λ e. let (a, x) = and-in _ _ (not-given _ .0 e) in
@@ -114,19 +121,25 @@ module _ (D : Question) where
         let (d, f) = and-in _ _ z in
         let (a₁, a₂) = and-in _ _ a in
         let (b₁, b₂) = and-in _ _ b in
-        ((leb-true _ _ a₁, leb-true _ _ a₂), (leb-true _ _ b₁, leb-true _ _ b₂), leb-true _ _ c, (eqb-true _ _ d, eqb-true _ _ f)),
-    λ ((a₁, a₂), (b₁, b₂), c, (d, f)). not-given _ .1
-        (and-of (and-of (le-leb _ _ a₁) (le-leb _ _ a₂)) (and-of (and-of (le-leb _ _ b₁) (le-leb _ _ b₂)) (and-of (le-leb _ _ c) (and-of (eqb-of d) (eqb-of f))))),
+        record { marks = (leb-true _ _ a₁, leb-true _ _ a₂); kinds = (leb-true _ _ b₁, leb-true _ _ b₂); few = leb-true _ _ c; columns = (eqb-true _ _ d, eqb-true _ _ f) },
+    λ S. not-given _ .1
+        (and-of (and-of (le-leb _ _ (S .marks .0)) (le-leb _ _ (S .marks .1)))
+        (and-of (and-of (le-leb _ _ (S .kinds .0)) (le-leb _ _ (S .kinds .1)))
+        (and-of (le-leb _ _ (S .few)) (and-of (eqb-of (S .columns .0)) (eqb-of (S .columns .1)))))),
   )
 
-  ties-law : (badTie D .given ≡ false) ↔ ((e : ℕ) → e < ties N → (fromOf N e < N .marks) × (toOf N e < N .marks) × ((k : ℕ) → Yes (has (kindsOf N e) k) → k < N .kinds))
+  pub row-1 : Says 1 (SizesRight D) 0 (sizes D)
+  unfolding sizes
+  row-1 = record { numbered = refl; passes = sizes-law; placed = refl }
+
+  pub row-2 : SaysFirst 2 (ties N) (TieRight D) (badTie D)
   unfolding badTie
-  ties-law = (
-    λ g e l. let (a, x) = and-in _ _ (not-given _ .0 (at-first BadTie (ties N) _ .0 g e l)) in
+  row-2 = asks-each BadTie (ties N) _ (TieRight D) (λ e. (
+    λ g. let (a, x) = and-in _ _ (not-given _ .0 g) in
         let (b, y) = and-in _ _ x in
-        (ltb-true _ _ a, ltb-true _ _ b, onlyBelow-law _ _ .0 y),
-    λ h. at-first BadTie (ties N) _ .1 (λ e l. let (a, b, c) = h e l in not-given _ .1 (and-of (lt-ltb _ _ a) (and-of (lt-ltb _ _ b) (onlyBelow-law _ _ .1 c)))),
-  )
+        record { from = ltb-true _ _ a; to = ltb-true _ _ b; kinds = onlyBelow-law _ _ .0 y },
+    λ T. not-given _ .1 (and-of (lt-ltb _ _ (T .from)) (and-of (lt-ltb _ _ (T .to)) (onlyBelow-law _ _ .1 (T .kinds)))),
+  ))
 
   -- tie e + 1 is out of order exactly if its to mark is below that of tie e
   after-one : (e : ℕ) → (ltb 0 (suc e) and ltb (toOf N (suc e)) (toOf N (suc e - 1))) ≡ ltb (toOf N (suc e)) (toOf N e)
@@ -135,99 +148,96 @@ module _ (D : Question) where
       let z : suc e - 1 ≡ e = omega arith in
       rw (lt-ltb 0 (suc e) (omega arith)) (ap (λ (i : ℕ). ltb (toOf N (suc e)) (toOf N i)) z)
 
-  order-law : (tieOrder D .given ≡ false) ↔ ((e : ℕ) → suc e < ties N → toOf N e ≤ toOf N (suc e))
-  unfolding tieOrder _and_
-  order-law = (
-    λ g e l. ltb-false (toOf N (suc e)) (toOf N e) (sym (after-one e) ∙ at-first TieOrder (ties N) _ .0 g (suc e) l),
-    λ h. at-first TieOrder (ties N) _ .1 (λ e l. below h e l),
+  in-order : (e : ℕ) → (ltb 0 e and ltb (toOf N e) (toOf N (e - 1)) ≡ false) ↔ InOrder D e
+  unfolding _and_
+  in-order zero = (λ g i z. absurd (omega arith), λ h. refl)
+  in-order (suc e) = (
+    λ g i z. (let y : e ≡ i = omega arith in subst (λ (k : ℕ). toOf N k ≤ toOf N (suc e)) y (ltb-false (toOf N (suc e)) (toOf N e) (sym (after-one e) ∙ g))),
+    λ h. after-one e ∙ le-ltb (toOf N (suc e)) (toOf N e) (h e refl),
   )
-    where
-      below : ((e : ℕ) → suc e < ties N → toOf N e ≤ toOf N (suc e)) → (e : ℕ) → e < ties N → ltb 0 e and ltb (toOf N e) (toOf N (e - 1)) ≡ false
-      below h zero l = refl
-      below h (suc e) l = after-one e ∙ le-ltb (toOf N (suc e)) (toOf N e) (h e l)
 
-  condition-law : (badCondition D .given ≡ false) ↔ (((1 ≤ C .states) × (C .states ≤ ceilings .states)) × (length (C .moves) ≤ ceilings .moves) × ((q : ℕ) → Yes (has (C .start) q) → q < C .states) × ((q : ℕ) → Yes (has (C .accept) q) → q < C .states))
+  pub row-3 : SaysFirst 3 (ties N) (InOrder D) (tieOrder D)
+  unfolding tieOrder
+  row-3 = asks-each TieOrder (ties N) _ (InOrder D) in-order
+
+  condition-law : (badCondition D .given ≡ false) ↔ ConditionRight D
   unfolding badCondition
   condition-law = (
     λ e. let (a, x) = and-in _ _ (not-given _ .0 e) in
         let (b, y) = and-in _ _ x in
         let (c, d) = and-in _ _ y in
         let (a₁, a₂) = and-in _ _ a in
-        ((leb-true _ _ a₁, leb-true _ _ a₂), leb-true _ _ b, onlyBelow-law _ _ .0 c, onlyBelow-law _ _ .0 d),
-    λ ((a₁, a₂), b, c, d). not-given _ .1 (and-of (and-of (le-leb _ _ a₁) (le-leb _ _ a₂)) (and-of (le-leb _ _ b) (and-of (onlyBelow-law _ _ .1 c) (onlyBelow-law _ _ .1 d)))),
+        record { states = (leb-true _ _ a₁, leb-true _ _ a₂); few = leb-true _ _ b; start = onlyBelow-law _ _ .0 c; accept = onlyBelow-law _ _ .0 d },
+    λ R. not-given _ .1
+        (and-of (and-of (le-leb _ _ (R .states .0)) (le-leb _ _ (R .states .1)))
+        (and-of (le-leb _ _ (R .few)) (and-of (onlyBelow-law _ _ .1 (R .start)) (onlyBelow-law _ _ .1 (R .accept))))),
   )
 
-  moves-law : (badMove D .given ≡ false) ↔ ((j : ℕ) → j < length (C .moves) → (moveAt C j .from < C .states) × (moveAt C j .kind < N .kinds) × (moveAt C j .to < C .states))
+  pub row-4 : Says 4 (ConditionRight D) 0 (badCondition D)
+  unfolding badCondition
+  row-4 = record { numbered = refl; passes = condition-law; placed = refl }
+
+  pub row-5 : SaysFirst 5 (length (C .moves)) (MoveRight D) (badMove D)
   unfolding badMove
-  moves-law = (
-    λ g j l. let (a, x) = and-in _ _ (not-given _ .0 (at-first BadMove (length (C .moves)) _ .0 g j l)) in
+  row-5 = asks-each BadMove (length (C .moves)) _ (MoveRight D) (λ j. (
+    λ g. let (a, x) = and-in _ _ (not-given _ .0 g) in
         let (b, c) = and-in _ _ x in
-        (ltb-true _ _ a, ltb-true _ _ b, ltb-true _ _ c),
-    λ h. at-first BadMove (length (C .moves)) _ .1 (λ j l. let (a, b, c) = h j l in not-given _ .1 (and-of (lt-ltb _ _ a) (and-of (lt-ltb _ _ b) (lt-ltb _ _ c)))),
-  )
+        record { from = ltb-true _ _ a; kind = ltb-true _ _ b; to = ltb-true _ _ c },
+    λ M. not-given _ .1 (and-of (lt-ltb _ _ (M .from)) (and-of (lt-ltb _ _ (M .kind)) (lt-ltb _ _ (M .to)))),
+  ))
 
-  ends-law : (badEnds D .given ≡ false) ↔ ((D .from < N .marks) × (D .to < N .marks))
+  pub row-6 : Says 6 ((D .from < N .marks) × (D .to < N .marks)) 0 (badEnds D)
   unfolding badEnds
-  ends-law = (
-    λ e. let (a, b) = and-in _ _ (not-given _ .0 e) in (ltb-true _ _ a, ltb-true _ _ b),
-    λ (a, b). not-given _ .1 (and-of (lt-ltb _ _ a) (lt-ltb _ _ b)),
-  )
+  row-6 = record {
+    numbered = refl;
+    passes = (
+      λ e. let (a, b) = and-in _ _ (not-given _ .0 e) in (ltb-true _ _ a, ltb-true _ _ b),
+      λ (a, b). not-given _ .1 (and-of (lt-ltb _ _ a) (lt-ltb _ _ b)),
+    );
+    placed = refl;
+  }
+
+  pub row-7 : (w : List ℕ) → Says 7 (pairs D ≤ length w) (pairs D) (shortArea D w)
+  unfolding shortArea
+  row-7 w = record { numbered = refl; passes = (λ e. ltb-false (length w) (pairs D) e, λ h. le-ltb (length w) (pairs D) h); placed = refl }
 
   -- none of refusals 1 to 6 is given exactly where the question is as the table wants it
   pub accepted-law : NoneGiven (lent-tests D) ↔ Accepted D
   unfolding lent-tests
-  accepted-law = (to, of)
-    where
-      to : NoneGiven (lent-tests D) → Accepted D
-      to h =
-          let (m, k, t, c) = sizes-law .0 (h (sizes D) (search rows depth 16)) in
-          let T = ties-law .0 (h (badTie D) (search rows depth 16)) in
-          let (q, f, s, a) = condition-law .0 (h (badCondition D) (search rows depth 16)) in record {
-            marks = m;
-            kinds = k;
-            few-ties = t;
-            columns = c;
-            tie = λ e l. (T e l .0, T e l .1);
-            kind = λ e i l x. T e l .2 i x;
-            rising = order-law .0 (h (tieOrder D) (search rows depth 16));
-            states = q;
-            few-moves = f;
-            start = s;
-            accept = a;
-            move = moves-law .0 (h (badMove D) (search rows depth 16));
-            ends = ends-law .0 (h (badEnds D) (search rows depth 16));
-          }
-
-      of : Accepted D → NoneGiven (lent-tests D)
-      of A =
-          none-cons _ _ (sizes-law .1 (A .marks, A .kinds, A .few-ties, A .columns))
-          (none-cons _ _ (ties-law .1 (λ e l. (A .tie e l .0, A .tie e l .1, λ k x. A .kind e k l x)))
-          (none-cons _ _ (order-law .1 (A .rising))
-          (none-cons _ _ (condition-law .1 (A .states, A .few-moves, A .start, A .accept))
-          (none-cons _ _ (moves-law .1 (A .move))
-          (none-one _ .1 (ends-law .1 (A .ends)))))))
+  accepted-law = (
+    λ h. record {
+      sizes = row-1 .passes .0 (h (sizes D) (search rows depth 16));
+      tie = row-2 .passes .0 (h (badTie D) (search rows depth 16));
+      order = row-3 .passes .0 (h (tieOrder D) (search rows depth 16));
+      condition = row-4 .passes .0 (h (badCondition D) (search rows depth 16));
+      move = row-5 .passes .0 (h (badMove D) (search rows depth 16));
+      ends = row-6 .passes .0 (h (badEnds D) (search rows depth 16));
+    },
+    λ A. none-cons _ _ (row-1 .passes .1 (A .sizes)) (none-cons _ _ (row-2 .passes .1 (A .tie)) (none-cons _ _ (row-3 .passes .1 (A .order))
+        (none-cons _ _ (row-4 .passes .1 (A .condition)) (none-cons _ _ (row-5 .passes .1 (A .move)) (none-one _ .1 (row-6 .passes .1 (A .ends))))))),
+  )
 
   module _ (A : Accepted D) where
     kinds-in : (e k : ℕ) → Yes (has (kindsOf N e) k) → k < N .kinds
     kinds-in e k x = go (ltb e (ties N)) refl
       where
         go : (t : Bool) → ltb e (ties N) ≡ t → k < N .kinds
-        go true b = A .kind e k (ltb-true _ _ b) x
-        go false b = let l = ltb-false e (ties N) b in let c = A .columns .1 in absurd (zero-has k (rw (List·getD-eq-default (N .sets) 0 {n = e} (omega arith)) at x))
+        go true b = A .tie e (ltb-true _ _ b) .kinds k x
+        go false b = let l = ltb-false e (ties N) b in let c = A .sizes .columns .1 in absurd (zero-has k (rw (List·getD-eq-default (N .sets) 0 {n = e} (omega arith)) at x))
 
     follows-in : (p k q : ℕ) → Yes (follows C p k q) → (p < C .states) × (q < C .states)
     unfolding follows
     follows-in p k q x =
         let (j, l, y) = anyBelow-in _ _ x in
         let (a, z) = and-in _ _ y in
-        let (m, _, n) = A .move j l in
-        (rw (eqb-true (moveAt C j .from) p a) at m, rw (eqb-true (moveAt C j .to) q (and-in _ _ z .1)) at n)
+        let M = A .move j l in
+        (rw (eqb-true (moveAt C j .from) p a) at (M .from), rw (eqb-true (moveAt C j .to) q (and-in _ _ z .1)) at (M .to))
 
     pub ready : Ready D
     unfolding usable starts accepts
     ready = record {
-      sound = record { from-in = λ e l. A .tie e l .0; to-in = λ e l. A .tie e l .1; kind-in = kinds-in; follow-in = follows-in; start-in = A .start; accept-in = A .accept };
-      few = (let a = mul-le-mul (A .marks .1) (A .states .1) in omega arith);
+      sound = record { from-in = λ e l. A .tie e l .from; to-in = λ e l. A .tie e l .to; kind-in = kinds-in; follow-in = follows-in; start-in = A .condition .start; accept-in = A .condition .accept };
+      few = (let a = mul-le-mul (A .sizes .marks .1) (A .condition .states .1) in omega arith);
       to-in = A .ends .1;
     }
 
@@ -237,7 +247,7 @@ module _ (D : Question) where
     rises-to i (suc k) l =
         let l′ : suc (i + k) < ties N = rw add-suc at l in
         let a = rises-to i k (omega arith) in
-        let b = A .rising (i + k) l′ in
+        let b = A .order (suc (i + k)) l′ (i + k) refl in
         rw add-suc (le-trans a b)
 
     pub one-run : (i j k : ℕ) → i ≤ j → j ≤ k → k < ties N → toOf N i ≡ toOf N k → toOf N j ≡ toOf N i
@@ -267,12 +277,12 @@ module _ (D : Question) where
 
   -- each call's list of rows, by what is added to the one before
   pub start-passes : (w : List ℕ) → NoneGiven (start-tests D w) ↔ (NoneGiven (lent-tests D) × (pairs D ≤ length w))
-  unfolding start-tests shortArea
+  unfolding start-tests
   start-passes w =
       let A = none-append (lent-tests D) (shortArea D w ∷ []) in
       let B = none-one (shortArea D w) in (
-        λ h. let (a, b) = A .0 h in (a, ltb-false (length w) (pairs D) (B .0 b)),
-        λ (a, b). A .1 (a, B .1 (le-ltb (length w) (pairs D) b)),
+        λ h. let (a, b) = A .0 h in (a, row-7 w .passes .0 (B .0 b)),
+        λ (a, b). A .1 (a, B .1 (row-7 w .passes .1 b)),
       )
 
   pub round-passes : (r : ℕ) (w : List ℕ) → NoneGiven (round-tests D r w) ↔ (NoneGiven (start-tests D w) × ((r ≤ pairs D) × (take (pairs D) w ≡ right D r)))

@@ -14,7 +14,7 @@ use Rattle.walk.specs.Condition.{Condition, moveAt}
 use Rattle.walk.specs.Walk.{Fits, LeastReaching, LeastMatching, Listed}
 use Rattle.walk.specs.Chains.{before}
 use Rattle.walk.specs.Question.{Question, usable, pairs, status, listing}
-use Rattle.walk.specs.Refusals.{Row, number, shortArea, wrongArea, unfinished, shortChain, notListed, lent-tests, start-tests, round-tests, first-tests, next-tests}
+use Rattle.walk.specs.Refusals.{Row, number, sizes, badTie, tieOrder, badCondition, badMove, badEnds, shortArea, wrongArea, unfinished, shortChain, notListed, start-tests, round-tests, first-tests, next-tests}
 use Rattle.walk.specs.Calls.{refused, Progress, Chain, NoChain, End, Done, leave, start, round, first, next}
 
 -- the words of the demands
@@ -36,6 +36,18 @@ pub record Refuses {A B : Type 0} (l : List Row) (lent : B) (d : Done A B) : Typ
       ↔ ((x : Row) × FirstGiven l x × (number (x .name) ≡ n) × (x .place ≡ p))
   pub stays : (n p : ℕ) → d .answer ≡ refused n p → d .left ≡ lent
 
+-- a row of the table: its number, given exactly when it is not so that `ok`, and its place
+pub record Says (no : ℕ) (ok : Type 0) (place : ℕ) (x : Row) : Type 0 where
+  pub numbered : number (x .name) ≡ no
+  pub passes : (x .given ≡ false) ↔ ok
+  pub placed : x .place ≡ place
+
+-- a row that asks each of n ties or moves: its place is the first that is not so
+pub record SaysFirst (no n : ℕ) (ok : ℕ → Type 0) (x : Row) : Type 0 where
+  pub numbered : number (x .name) ≡ no
+  pub passes : (x .given ≡ false) ↔ ((i : ℕ) → i < n → ok i)
+  pub first-such : x .given ≡ true → (x .place < n) × (ok (x .place) → ⊥) × ((i : ℕ) → i < x .place → ok i)
+
 abbrev pub Finished : Status → Type 0
 Finished S = S ≡ Going → ⊥
 
@@ -55,20 +67,38 @@ module _ (D : Question) where
   abbrev C : Condition
   C = D .condition
 
-  -- none of refusals 1 to 6 has a reason: what the table's sentences rule out
-  pub record Accepted : Type 0 where
+  -- what refusals 1 to 6 ask for
+  pub record SizesRight : Type 0 where
     pub marks : (1 ≤ lent .marks) × (lent .marks ≤ ceilings .marks)
     pub kinds : (1 ≤ lent .kinds) × (lent .kinds ≤ ceilings .kinds)
-    pub few-ties : ties lent ≤ ceilings .ties
+    pub few : ties lent ≤ ceilings .ties
     pub columns : (length (lent .tos) ≡ ties lent) × (length (lent .sets) ≡ ties lent)
-    pub tie : (e : ℕ) → e < ties lent → (fromOf lent e < lent .marks) × (toOf lent e < lent .marks)
-    pub kind : (e k : ℕ) → e < ties lent → has (kindsOf lent e) k ≡ true → k < lent .kinds
-    pub rising : (e : ℕ) → suc e < ties lent → toOf lent e ≤ toOf lent (suc e)
+
+  pub record TieRight (e : ℕ) : Type 0 where
+    pub from : fromOf lent e < lent .marks
+    pub to : toOf lent e < lent .marks
+    pub kinds : (k : ℕ) → has (kindsOf lent e) k ≡ true → k < lent .kinds
+
+  abbrev pub InOrder : ℕ → Type 0
+  InOrder e = (i : ℕ) → e ≡ suc i → toOf lent i ≤ toOf lent e
+
+  pub record ConditionRight : Type 0 where
     pub states : (1 ≤ C .states) × (C .states ≤ ceilings .states)
-    pub few-moves : length (C .moves) ≤ ceilings .moves
+    pub few : length (C .moves) ≤ ceilings .moves
     pub start : (q : ℕ) → has (C .start) q ≡ true → q < C .states
     pub accept : (q : ℕ) → has (C .accept) q ≡ true → q < C .states
-    pub move : (j : ℕ) → j < length (C .moves) → (moveAt C j .from < C .states) × (moveAt C j .kind < lent .kinds) × (moveAt C j .to < C .states)
+
+  pub record MoveRight (j : ℕ) : Type 0 where
+    pub from : moveAt C j .from < C .states
+    pub kind : moveAt C j .kind < lent .kinds
+    pub to : moveAt C j .to < C .states
+
+  pub record Accepted : Type 0 where
+    pub sizes : SizesRight
+    pub tie : (e : ℕ) → e < ties lent → TieRight e
+    pub order : (e : ℕ) → e < ties lent → InOrder e
+    pub condition : ConditionRight
+    pub move : (j : ℕ) → j < length (C .moves) → MoveRight j
     pub ends : (D .from < lent .marks) × (D .to < lent .marks)
 
   -- the word x of a pair is its least length, if that is at most n, and else 65,535; and all words of the area a are such
@@ -88,19 +118,24 @@ module _ (D : Question) where
   PairAt r = (v : ℕ) × (q : ℕ) × (v < N .marks) × (q < C .states) × LeastReaching N C (D .from) v q r
 
   -- demand 1: "Bad input is refused by number, in the fixed order of the rules, and a refusal changes nothing in any buffer lent to it."
-  -- Each call refuses by its rows, and the rows are given when the table says
+  -- Each call refuses by its rows, and the rows are those of the table
   pub record Demand1 (r : ℕ) (w c : List ℕ) : Type 0 where
     pub of-start : Refuses (start-tests D w) w (start D w)
     pub of-round : Refuses (round-tests D r w) w (round D r w)
     pub of-first : Refuses (first-tests D r w c) c (first D r w c)
     pub of-next : Refuses (next-tests D r w c) c (next D r w c)
-    pub accepted : NoneGiven (lent-tests D) ↔ Accepted
-    pub room : (shortArea D w .given ≡ false) ↔ (pairs D ≤ length w)
-    pub right : Accepted → pairs D ≤ length w → (wrongArea D r w .given ≡ false) ↔ ((r ≤ pairs D) × RightArea r w)
-    pub finished : (unfinished D r .given ≡ false) ↔ Finished (status D r)
-    pub chain-room : (n : ℕ) → status D r ≡ Found n → (shortChain D r c .given ≡ false) ↔ (n ≤ length c)
-    pub listed : Accepted → r ≤ pairs D
-        → (notListed D r c .given ≡ false) ↔ ((n : ℕ) × (status D r ≡ Found n) × Listed N C (D .from) (D .to) (take n c))
+    pub row-1 : Says 1 SizesRight 0 (sizes D)
+    pub row-2 : SaysFirst 2 (ties lent) TieRight (badTie D)
+    pub row-3 : SaysFirst 3 (ties lent) InOrder (tieOrder D)
+    pub row-4 : Says 4 ConditionRight 0 (badCondition D)
+    pub row-5 : SaysFirst 5 (length (C .moves)) MoveRight (badMove D)
+    pub row-6 : Says 6 ((D .from < lent .marks) × (D .to < lent .marks)) 0 (badEnds D)
+    pub row-7 : Says 7 (pairs D ≤ length w) (pairs D) (shortArea D w)
+    pub row-8 : Accepted → pairs D ≤ length w → Says 8 ((r ≤ pairs D) × RightArea r w) 0 (wrongArea D r w)
+    pub row-9 : Says 9 (Finished (status D r)) 0 (unfinished D r)
+    pub row-10 : (n : ℕ) → status D r ≡ Found n → Says 10 (n ≤ length c) n (shortChain D r c)
+    pub row-11 : Accepted → r ≤ pairs D
+        → Says 11 ((n : ℕ) × (status D r ≡ Found n) × Listed N C (D .from) (D .to) (take n c)) 0 (notListed D r c)
 
   -- demand 2: "After r rounds of preparation, none of them made once it had finished, the area holds, for every mark and state, the
   -- least number of ties that reaches it if that is at most r, and otherwise the mark for unreached. Carried to its finish, preparation says
