@@ -1,6 +1,7 @@
 -- The area as a list: the word at v×Q + q belongs to mark v and state q. So an area is the right one exactly if each pair's word is, and one
 -- round takes the right area for r rounds to the right one for r + 1.
 use Prim.Native.Nat.{ℕ, zero, suc, _+_, _*_, _/_, _%_, _≤_, _<_}
+use mathlib.Core.Bool.{cond}
 use mathlib.Core.Path.{_≡_, refl, sym, _∙_, ap}
 use mathlib.Core.List.{List}
 use mathlib.Core.Logic.{_↔_}
@@ -11,7 +12,7 @@ use lib.Dec.{leb, eqb}
 use lib.ListN.{length, getD, take}
 use lib.Seq.{ext-getD, getD-take, length-take-le}
 use borrow.Author.Tests.{eqb-true}
-use Rattle.walk.specs.Numbers.{_and_, pick, table}
+use Rattle.walk.specs.Numbers.{_and_, table}
 use Rattle.walk.specs.Network.{Network}
 use Rattle.walk.specs.Condition.{Condition, starts}
 use Rattle.walk.specs.Area.{pairs, word, area, pairsAt}
@@ -78,10 +79,10 @@ module _ (N : Network) (C : Condition) (s : ℕ) where
 
   -- what start and a round write
   unfoldable pub begin : ℕ → ℕ
-  begin i = pick (eqb s (i / C .states) and starts C (i % C .states)) 0 unreached
+  begin i = cond (eqb s (i / C .states) and starts C (i % C .states)) 0 unreached
 
   unfoldable pub step : List ℕ → ℕ → ℕ → ℕ
-  step a r i = pick (leb (getD a i 0) r) (getD a i 0) (pick (comes N C s (at a) r (i / C .states) (i % C .states)) (suc r) unreached)
+  step a r i = cond (leb (getD a i 0) r) (getD a i 0) (cond (comes N C s (at a) r (i / C .states) (i % C .states)) (suc r) unreached)
 
   module _ (ok : Sound N C) where
     pub begin-law : area N C s 0 ≡ table (pairs N C) begin

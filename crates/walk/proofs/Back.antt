@@ -4,7 +4,7 @@
 -- listed exactly if it can be walked back so.
 use Prim.Native.Nat.{ℕ, zero, suc, _+_, _^_, _≤_, _<_}
 use mathlib.Core.Path.{_≡_, refl, sym, _∙_, subst}
-use mathlib.Core.Bool.{Bool}
+use mathlib.Core.Bool.{Bool, cond}
 use mathlib.Core.List.{List, [], _∷_, _++_, append-assoc, List·Memᴰ}
 use mathlib.Core.Option.{Option, none, some}
 use mathlib.Core.Logic.{_↔_}
@@ -14,7 +14,7 @@ use lib.Dec.{leb, ltb, eqb}
 use lib.ListN.{length, length-append}
 use lib.Seq.{take-all}
 use borrow.Author.Tests.{eqb-true, ltb-true, lt-ltb}
-use Rattle.walk.specs.Numbers.{has, _and_, pick, anyBelow, least, setBelow}
+use Rattle.walk.specs.Numbers.{has, _and_, anyBelow, least, setBelow}
 use Rattle.walk.specs.Network.{Network, ties, fromOf, toOf}
 use Rattle.walk.specs.Condition.{Condition, accepts}
 use Rattle.walk.specs.Walk.{Joins, Fits, LeastMatching}
@@ -82,7 +82,7 @@ module _ (N : Network) (back : ℕ → ℕ → ℕ → ℕ) where
     raise i [] = none
     raise i (x ∷ d) =
         let e = lowest (suc x) (mark N t d) i (setAt (suc i) d) in
-        pick (ltb e (ties N)) (some (record { place = i; tie = e; alive = back e i (setAt (suc i) d); rest = d })) (raise (suc i) d)
+        cond (ltb e (ties N)) (some (record { place = i; tie = e; alive = back e i (setAt (suc i) d); rest = d })) (raise (suc i) d)
 
   -- the chain that a raised tie makes
   abbrev pub raised : Option Raise → Option (List ℕ)

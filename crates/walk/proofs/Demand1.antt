@@ -3,8 +3,8 @@
 -- (That every call takes every input and ends is what the prover shows of each function: it has no `requires`, and every loop has a measure.)
 use Prim.Native.Nat.{ℕ, _≤_, _<_}
 use mathlib.Core.Path.{_≡_, refl, sym, _∙_, subst, ap}
-use mathlib.Core.Bool.{Bool, true, false, true≢false, not}
-use mathlib.Core.List.{List, List·Memᴰ}
+use mathlib.Core.Bool.{Bool, true, false, true≢false, not, cond}
+use mathlib.Core.List.{List, List·Memᴰ, head?}
 use mathlib.Core.Option.{Option, none, some}
 use mathlib.Core.Logic.{_↔_, _⊎_, inl, inr}
 use native.Mathlib.Omega.{arith}
@@ -12,10 +12,9 @@ use lib.ListN.{length, take}
 use borrow.Author.Tests.{ltb-false, le-ltb, not-false}
 use Rattle.walk.specs.declared.Status.{Status}
 use Rattle.walk.specs.declared.Status.the-variants.{Found, None, Going}
-use Rattle.walk.specs.Numbers.{pick}
 use Rattle.walk.specs.Walk.{Listed}
 use Rattle.walk.specs.Area as Area
-use Rattle.walk.specs.Chains.{firstOf, afterOf}
+use Rattle.walk.specs.Chains.{afterOf}
 use Rattle.walk.specs.Question.{Question, usable, pairs, right, status, listing}
 use Rattle.walk.specs.Refusals.{Row, number, isGoing, unlisted, wrongArea, unfinished, shortChain, notListed, start-tests, round-tests, first-tests, next-tests}
 use Rattle.walk.specs.Calls.{refused, gives, Reply, NoChain, End, Done, judged, prepared, put, earliest, later, start, round, first, next}
@@ -57,7 +56,7 @@ put-gives a c none = (_, refl)
 put-gives a c (some d) = (_, refl)
 
 picked-gives : {A B : Type 0} (t : Bool) (x y : Done A B) → (a : A) × (x .answer ≡ gives a) → (a : A) × (y .answer ≡ gives a)
-    → (a : A) × (pick t x y .answer ≡ gives a)
+    → (a : A) × (cond t x y .answer ≡ gives a)
 picked-gives true x y g h = g
 picked-gives false x y g h = h
 
@@ -121,7 +120,7 @@ module _ (D : Question) where
 
 module _ (D : Question) (r : ℕ) (w c : List ℕ) where
   earliest-gives : (S : Status) → (b : Reply) × (earliest D c S .answer ≡ gives b)
-  earliest-gives (Found n) = put-gives NoChain c (firstOf (listing D n))
+  earliest-gives (Found n) = put-gives NoChain c (head? (listing D n))
   earliest-gives None = (_, refl)
   earliest-gives Going = (_, refl)
 

@@ -5,7 +5,7 @@
 use Prim.Native.Nat.{ℕ, _≤_}
 use mathlib.Core.Path.{_≡_, refl, sym, _∙_, subst, ap}
 use mathlib.Core.Bool.{false}
-use mathlib.Core.List.{List, [], _∷_, _++_, append-assoc, List·Memᴰ, List·Memᴰ·head, List·Memᴰ·tail, List·Memᴰ·not-nil, Memᴰ·append-right}
+use mathlib.Core.List.{List, [], _∷_, _++_, append-assoc, List·Memᴰ, List·Memᴰ·head, List·Memᴰ·tail, List·Memᴰ·not-nil, Memᴰ·append-right, head?}
 use mathlib.Core.Option.{Option, some}
 use mathlib.Core.Logic.{_↔_}
 use native.Mathlib.Omega.{arith}
@@ -17,7 +17,7 @@ use Rattle.walk.specs.declared.Status.the-variants.{Found, None}
 use Rattle.walk.specs.Network.{Network}
 use Rattle.walk.specs.Condition.{Condition}
 use Rattle.walk.specs.Walk.{LeastMatching, Listed}
-use Rattle.walk.specs.Chains.{firstOf, afterOf}
+use Rattle.walk.specs.Chains.{afterOf}
 use Rattle.walk.specs.Question.{Question, status, listing, usable}
 use Rattle.walk.specs.Refusals.{isGoing, unfinished, shortChain, notListed, round-tests, list-tests, first-tests, next-tests}
 use Rattle.walk.specs.Calls.{Chain, NoChain, End, leave, put, earliest, later, first, next}
@@ -76,15 +76,15 @@ module _ (D : Question) (r : ℕ) (a : List ℕ) where
     some-chain (c ∷ k) e = (c, k, e)
 
     first-gives : (b c : List ℕ) (k : List (List ℕ)) → n ≤ length b → listing D n ≡ c ∷ k → first D r a b ≡ leave Chain (c ++ drop n b)
-    unfolding first firstOf
+    unfolding first
     first-gives b c k l e =
         judged-none b (earliest D b (status D r)) (first-tests D r a b) (first-passes b l)
         ∙ ap (λ (T : Status). earliest D b T) S
-        ∙ ap (λ (x : List (List ℕ)). put NoChain b (firstOf x)) e
+        ∙ ap (λ (x : List (List ℕ)). put NoChain b (head? x)) e
         ∙ ap (λ (i : ℕ). leave Chain (c ++ drop i b)) (long c (subst (λ (x : List (List ℕ)). List·Memᴰ c x) (sym e) (List·Memᴰ·head refl)))
 
     next-gives : (xs : List (List ℕ)) (c : List ℕ) (k : List (List ℕ)) (x : List ℕ) → listing D n ≡ xs ++ (c ∷ k)
-        → next D r a (c ++ x) ≡ put End (c ++ x) (firstOf k)
+        → next D r a (c ++ x) ≡ put End (c ++ x) (head? k)
     unfolding next
     next-gives xs c k x e =
         judged-none (c ++ x) (later D (c ++ x) (status D r)) (next-tests D r a (c ++ x)) (next-passes (c ++ x) room (rw front m))
@@ -107,13 +107,11 @@ module _ (D : Question) (r : ℕ) (a : List ℕ) where
 
     after-gives : (xs : List (List ℕ)) (c y : List ℕ) (ys : List (List ℕ)) (x : List ℕ) → listing D n ≡ xs ++ (c ∷ (y ∷ ys))
         → next D r a (c ++ x) ≡ leave Chain (y ++ x)
-    unfolding firstOf
     after-gives xs c y ys x e =
         let at : (d : List ℕ) → List·Memᴰ d (c ∷ (y ∷ ys)) → length d ≡ n = λ d m. long d (subst (λ (l : List (List ℕ)). List·Memᴰ d l) (sym e) (Memᴰ·append-right xs m)) in
         next-gives xs c (y ∷ ys) x e ∙ put-chain c y x (at c (List·Memᴰ·head refl)) (at y (List·Memᴰ·tail (List·Memᴰ·head refl)))
 
     last-gives : (xs : List (List ℕ)) (c x : List ℕ) → listing D n ≡ xs ++ (c ∷ []) → next D r a (c ++ x) ≡ leave End (c ++ x)
-    unfolding firstOf
     last-gives xs c x e = next-gives xs c [] x e
 
     yields : (k xs : List (List ℕ)) (c x : List ℕ) → listing D n ≡ xs ++ (c ∷ k) → Yields D r a x c k

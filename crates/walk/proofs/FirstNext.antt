@@ -3,8 +3,8 @@
 -- in a list that rises what has nothing before it is the first, and what has nothing between is the next.
 use Prim.Native.Nat.{ℕ, zero, suc, _+_, _≤_, _<_}
 use mathlib.Core.Path.{_≡_, refl, sym, _∙_, subst, subst₂, ap}
-use mathlib.Core.Bool.{Bool, true, false}
-use mathlib.Core.List.{List, [], _∷_, _++_, append-assoc, append-nil, List·Memᴰ, head-eq-of-cons-eq}
+use mathlib.Core.Bool.{Bool, true, false, cond}
+use mathlib.Core.List.{List, [], _∷_, _++_, append-assoc, append-nil, List·Memᴰ, head-eq-of-cons-eq, head?}
 use mathlib.Core.Option.{Option, some}
 use mathlib.Core.Logic.{_↔_, inl, inr, ⊎-elim}
 use native.Mathlib.Nat.{eq-or-lt-of-le, add-zero}
@@ -13,11 +13,11 @@ use lib.Dec.{leb, ltb}
 use lib.ListN.{length, length-append, take, drop, getD}
 use lib.Seq.{take-all, take-suc, split-at, length-take-le}
 use borrow.Author.Tests.{eqb-true, ltb-true, ltb-false, leb-true, le-leb}
-use Rattle.walk.specs.Numbers.{_and_, pick}
+use Rattle.walk.specs.Numbers.{_and_}
 use Rattle.walk.specs.Network.{Network, ties, toOf}
 use Rattle.walk.specs.Condition.{Condition}
 use Rattle.walk.specs.Walk.{Joins, Fits, LeastMatching}
-use Rattle.walk.specs.Chains.{before, list, firstOf, afterOf}
+use Rattle.walk.specs.Chains.{before, list, afterOf}
 use Rattle.walk.proofs.Numbers.{Yes, and-in, and-of, eqb-of, least-is}
 use Rattle.walk.proofs.Sets.{nonempty}
 use Rattle.walk.proofs.Executable.{Sound, joins-split}
@@ -118,7 +118,7 @@ module _ (N : Network) (C : Condition) (s t r : ℕ) (ok : Sound N C) (n : ℕ) 
           (eq-or-lt-of-le k)
 
   -- the smallest ties all the fill make the first chain of the list
-  pub first-law : firstOf (list N C s t n) ≡ some (filled n [])
+  pub first-law : head? (list N C s t n) ≡ some (filled n [])
   first-law =
       first-is _ (filled n []) (list-rises N C s t n)
       (list-law N C s t n ok (filled n []) .1 (size, whole))
@@ -209,7 +209,7 @@ module _ (N : Network) (C : Condition) (s t r : ℕ) (ok : Sound N C) (n : ℕ) 
 
         go : (b : Bool) → ltb z (ties N) ≡ b
             → ((h′ : List ℕ) → length h′ ≡ suc k → c ≡ h′ ++ d → NoMore (suc k) d → afterOf c (list N C s t n) ≡ raised N (back N C s t r) (raiseAt (suc k) d))
-            → afterOf c (list N C s t n) ≡ raised N (back N C s t r) (pick b (some (record { place = k; tie = z; alive = back N C s t r z k (alive (suc k) d); rest = d })) (raiseAt (suc k) d))
+            → afterOf c (list N C s t n) ≡ raised N (back N C s t r) (cond b (some (record { place = k; tie = z; alive = back N C s t r z k (alive (suc k) d); rest = d })) (raiseAt (suc k) d))
         go true b rec = found (ltb-true z (ties N) b)
         go false b rec =
             rec (h ++ (x ∷ [])) (length-append h (x ∷ []) ∙ omega arith) (e ∙ sym (append-assoc h (x ∷ []) d))

@@ -2,7 +2,7 @@
 -- once no pair has the one before, and none is 65,535.
 use Prim.Native.Nat.{ℕ, zero, suc, _+_, _*_, _-_, _/_, _%_, _≤_, _<_, zero-le, min}
 use mathlib.Core.Path.{_≡_, refl, sym, _∙_, subst, subst₂, ap}
-use mathlib.Core.Bool.{Bool, true, false}
+use mathlib.Core.Bool.{Bool, true, false, cond}
 use mathlib.Core.List.{List}
 use mathlib.Core.Logic.{_↔_, _⊎_, inl, inr, ⊎-elim}
 use native.Mathlib.Nat.{not-suc-le-zero}
@@ -10,7 +10,6 @@ use native.Mathlib.Omega.{arith}
 use lib.Dec.{eqb}
 use lib.ListN.{length}
 use borrow.Author.Tests.{eqb-true, eqb-false}
-use Rattle.walk.specs.Numbers.{pick}
 use Rattle.walk.specs.Network.{Network}
 use Rattle.walk.specs.Condition.{Condition}
 use Rattle.walk.specs.Walk.{LeastLength, LeastReaching}
@@ -29,19 +28,19 @@ pigeon (suc m) (suc n) f h k = let r = pigeon m n g low apart in omega arith
   where
     -- the place m is given to the last number's
     g : ℕ → ℕ
-    g i = pick (eqb (f i) m) (f n) (f i)
+    g i = cond (eqb (f i) m) (f n) (f i)
 
     low : (i : ℕ) → i < n → g i < m
     low i l = go (eqb (f i) m) refl
       where
-        go : (t : Bool) → eqb (f i) m ≡ t → pick t (f n) (f i) < m
+        go : (t : Bool) → eqb (f i) m ≡ t → cond t (f n) (f i) < m
         go true e = let a = eqb-true (f i) m e in let b = h n (omega arith) in let c : ¬ (f n ≡ m) = λ z. k i n l (omega arith) (a ∙ sym z) in omega arith
         go false e = let b = h i (omega arith) in let c : ¬ (f i ≡ m) = eqb-false (f i) m e in omega arith
 
     apart : (i j : ℕ) → i < j → j < n → g i ≡ g j → ⊥
     apart i j l u = go (eqb (f i) m) refl (eqb (f j) m) refl
       where
-        go : (t : Bool) → eqb (f i) m ≡ t → (s : Bool) → eqb (f j) m ≡ s → pick t (f n) (f i) ≡ pick s (f n) (f j) → ⊥
+        go : (t : Bool) → eqb (f i) m ≡ t → (s : Bool) → eqb (f j) m ≡ s → cond t (f n) (f i) ≡ cond s (f n) (f j) → ⊥
         go true e true d z = k i j l (omega arith) (eqb-true (f i) m e ∙ sym (eqb-true (f j) m d))
         go true e false d z = k j n u (omega arith) (sym z)
         go false e true d z = k i n (omega arith) (omega arith) z

@@ -2,7 +2,7 @@
 -- or for any has here what a turn and the end need.
 use Prim.Native.Nat.{ℕ, zero, suc, _+_, _≤_, _<_, zero-le, suc-le-suc}
 use mathlib.Core.Path.{_≡_, refl, sym, subst, ap, ap₂, _∙_}
-use mathlib.Core.Bool.{Bool, true, false, _||_, false≢true}
+use mathlib.Core.Bool.{Bool, true, false, _||_, false≢true, cond}
 use mathlib.Core.List.{List, [], _∷_}
 use mathlib.Mathlib.Data.Bool.Basic.{or-inl, or-inr}
 use mathlib.Core.Logic.{_⊎_, inl, inr, ⊎-elim}
@@ -11,7 +11,7 @@ use native.Mathlib.Nat.{not-suc-le-zero, le-of-suc-le-suc, eq-or-lt-of-le, lt-su
 use native.Mathlib.Omega.{arith}
 use lib.Dec.{eqb}
 use borrow.Author.Tests.{eqb-true, eq-eqb}
-use Rattle.walk.specs.Numbers.{_and_, pick, anyBelow, least, table, tally, same}
+use Rattle.walk.specs.Numbers.{_and_, anyBelow, least, table, tally, same}
 
 abbrev pub Yes : Bool → Type 0
 Yes b = b ≡ true
@@ -129,7 +129,7 @@ unfolding tally
 tally-in p [] h = absurd (not-suc-le-zero h)
 tally-in p (x ∷ xs) h = go (p x) refl h (λ k. tally-in p xs k)
   where
-    go : (t : Bool) → p x ≡ t → 0 < pick t 1 0 + tally p xs → (0 < tally p xs → (i : ℕ) × (i < length xs) × Yes (p (getD xs i 0)))
+    go : (t : Bool) → p x ≡ t → 0 < cond t 1 0 + tally p xs → (0 < tally p xs → (i : ℕ) × (i < length xs) × Yes (p (getD xs i 0)))
         → (i : ℕ) × (i < suc (length xs)) × Yes (p (getD (x ∷ xs) i 0))
     go true e h ih = (0, omega arith, e)
     go false e h ih = let (i, l, t) = ih (omega arith) in (suc i, omega arith, t)

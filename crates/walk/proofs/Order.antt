@@ -2,8 +2,8 @@
 -- is the one that comes after c with none between.
 use Prim.Native.Nat.{ℕ, zero, suc, _<_}
 use mathlib.Core.Path.{_≡_, refl, sym, _∙_, ap}
-use mathlib.Core.Bool.{Bool, true, false, false≢true}
-use mathlib.Core.List.{List, [], _∷_, _++_, flatMap, head-eq-of-cons-eq, tail-eq-of-cons-eq, List·Memᴰ, List·Memᴰ·head, List·Memᴰ·tail, List·Memᴰ·not-nil, List·Memᴰ·cases-cons, List·Memᴰ·eq-of-singleton, List·Memᴰ·append-cases, Memᴰ·append-left, Memᴰ·append-right}
+use mathlib.Core.Bool.{Bool, true, false, false≢true, cond}
+use mathlib.Core.List.{List, [], _∷_, _++_, flatMap, head-eq-of-cons-eq, tail-eq-of-cons-eq, List·Memᴰ, List·Memᴰ·head, List·Memᴰ·tail, List·Memᴰ·not-nil, List·Memᴰ·cases-cons, List·Memᴰ·eq-of-singleton, List·Memᴰ·append-cases, Memᴰ·append-left, Memᴰ·append-right, head?}
 use mathlib.Core.Option.{none, some}
 use mathlib.Mathlib.Data.Bool.Basic.{or-inl, or-inr, bool-eq-false}
 use mathlib.Core.Logic.{_↔_, _⊎_, inl, inr, ⊎-elim}
@@ -12,8 +12,8 @@ use native.Mathlib.Omega.{arith}
 use lib.ListN.{length, take, drop}
 use lib.Seq.{take-at, drop-at}
 use borrow.Author.Tests.{ltb-true, lt-ltb}
-use Rattle.walk.specs.Numbers.{pick, table, same}
-use Rattle.walk.specs.Chains.{before, rows, sieve, member, firstOf, afterOf}
+use Rattle.walk.specs.Numbers.{table, same}
+use Rattle.walk.specs.Chains.{before, rows, sieve, member, afterOf}
 use Rattle.walk.specs.Demands.{Rises}
 use Rattle.walk.proofs.Numbers.{Yes, and-in, and-of, or-in, same-refl, same-eq, same-of}
 
@@ -128,7 +128,7 @@ module _ (p : List ℕ → Bool) where
   sieve-mem [] y m = absurd (List·Memᴰ·not-nil m)
   sieve-mem (x ∷ xs) y m = go (p x) refl m (λ k. sieve-mem xs y k)
     where
-      go : (t : Bool) → p x ≡ t → List·Memᴰ y (pick t (x ∷ sieve p xs) (sieve p xs)) → (List·Memᴰ y (sieve p xs) → List·Memᴰ y xs × Yes (p y))
+      go : (t : Bool) → p x ≡ t → List·Memᴰ y (cond t (x ∷ sieve p xs) (sieve p xs)) → (List·Memᴰ y (sieve p xs) → List·Memᴰ y xs × Yes (p y))
           → List·Memᴰ y (x ∷ xs) × Yes (p y)
       go true e m ih = ⊎-elim (λ k. (List·Memᴰ·head k, rw k e)) (λ k. (List·Memᴰ·tail (ih k .0), ih k .1)) (List·Memᴰ·cases-cons m)
       go false e m ih = (List·Memᴰ·tail (ih m .0), ih m .1)
@@ -138,7 +138,7 @@ module _ (p : List ℕ → Bool) where
   mem-sieve [] y m t = absurd (List·Memᴰ·not-nil m)
   mem-sieve (x ∷ xs) y m t = go (p x) refl (List·Memᴰ·cases-cons m) (λ k. mem-sieve xs y k t)
     where
-      go : (u : Bool) → p x ≡ u → (y ≡ x) ⊎ List·Memᴰ y xs → (List·Memᴰ y xs → List·Memᴰ y (sieve p xs)) → List·Memᴰ y (pick u (x ∷ sieve p xs) (sieve p xs))
+      go : (u : Bool) → p x ≡ u → (y ≡ x) ⊎ List·Memᴰ y xs → (List·Memᴰ y xs → List·Memᴰ y (sieve p xs)) → List·Memᴰ y (cond u (x ∷ sieve p xs) (sieve p xs))
       go true e (inl k) ih = List·Memᴰ·head k
       go true e (inr k) ih = List·Memᴰ·tail (ih k)
       go false e (inl k) ih = absurd (false≢true (sym e ∙ ap p (sym k) ∙ t))
@@ -149,13 +149,12 @@ module _ (p : List ℕ → Bool) where
   rises-sieve [] h = tt
   rises-sieve (x ∷ xs) h = go (p x) (rises-sieve xs (h .1))
     where
-      go : (t : Bool) → Rises (sieve p xs) → Rises (pick t (x ∷ sieve p xs) (sieve p xs))
+      go : (t : Bool) → Rises (sieve p xs) → Rises (cond t (x ∷ sieve p xs) (sieve p xs))
       go true s = (λ y m. h .0 y (sieve-mem xs y m .0), s)
       go false s = s
 
 -- the first and the next of a sorted list
-pub first-is : (l : List (List ℕ)) (c : List ℕ) → Rises l → List·Memᴰ c l → ((d : List ℕ) → List·Memᴰ d l → Yes (before d c) → ⊥) → firstOf l ≡ some c
-unfolding firstOf
+pub first-is : (l : List (List ℕ)) (c : List ℕ) → Rises l → List·Memᴰ c l → ((d : List ℕ) → List·Memᴰ d l → Yes (before d c) → ⊥) → head? l ≡ some c
 first-is [] c h m n = absurd (List·Memᴰ·not-nil m)
 first-is (x ∷ xs) c h m n = ⊎-elim (λ e. ap some (sym e)) (λ k. absurd (n x (List·Memᴰ·head refl) (h .0 c k))) (List·Memᴰ·cases-cons m)
 
@@ -163,7 +162,7 @@ after-step : (c x : List ℕ) (xs : List (List ℕ)) → ¬ (x ≡ c) → afterO
 unfolding afterOf
 after-step c x xs n = rw (bool-eq-false (λ e. n (same-eq x c e)))
 
-after-here : (c : List ℕ) (xs : List (List ℕ)) → afterOf c (c ∷ xs) ≡ firstOf xs
+after-here : (c : List ℕ) (xs : List (List ℕ)) → afterOf c (c ∷ xs) ≡ head? xs
 unfolding afterOf
 after-here c xs = rw (same-refl c)
 
@@ -174,7 +173,7 @@ stands-once (x ∷ xs) c ys h =
     let (f, g) = stands-once xs c ys (h .1) in
     (λ m. ⊎-elim (λ e. before-irrefl x (rw e at (h .0 c (Memᴰ·append-right xs (List·Memᴰ·head refl))))) f (List·Memᴰ·cases-cons m), g)
 
-pub after-split : (xs : List (List ℕ)) (c : List ℕ) (ys : List (List ℕ)) → Rises (xs ++ (c ∷ ys)) → afterOf c (xs ++ (c ∷ ys)) ≡ firstOf ys
+pub after-split : (xs : List (List ℕ)) (c : List ℕ) (ys : List (List ℕ)) → Rises (xs ++ (c ∷ ys)) → afterOf c (xs ++ (c ∷ ys)) ≡ head? ys
 after-split [] c ys h = after-here c ys
 after-split (x ∷ xs) c ys h = after-step c x (xs ++ (c ∷ ys)) (λ e. stands-once (x ∷ xs) c ys h .0 (List·Memᴰ·head (sym e))) ∙ after-split xs c ys (h .1)
 
@@ -190,11 +189,10 @@ next-is (x ∷ xs) c d h m k b n = go (List·Memᴰ·cases-cons m) (List·Memᴰ
     go (inr e) (inr f) ih = after-step c x xs (λ g. before-irrefl c (rw g at (h .0 c e))) ∙ ih e f
 
 pub next-none : (l : List (List ℕ)) (c : List ℕ) → Rises l → List·Memᴰ c l → ((x : List ℕ) → List·Memᴰ x l → Yes (before c x) → ⊥) → afterOf c l ≡ none
-unfolding firstOf
 next-none [] c h m n = absurd (List·Memᴰ·not-nil m)
 next-none (x ∷ xs) c h m n = go (List·Memᴰ·cases-cons m) (λ i. next-none xs c (h .1) i (λ y ym. n y (List·Memᴰ·tail ym)))
   where
-    empty : (l : List (List ℕ)) → ((y : List ℕ) → List·Memᴰ y l → ⊥) → firstOf l ≡ none
+    empty : (l : List (List ℕ)) → ((y : List ℕ) → List·Memᴰ y l → ⊥) → head? l ≡ none
     empty [] f = refl
     empty (y ∷ ys) f = absurd (f y (List·Memᴰ·head refl))
 

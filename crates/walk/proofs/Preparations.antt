@@ -3,7 +3,7 @@
 -- writes the right area for one round more. A pair stands at a count that is Going, so such a count is below V×Q.
 use Prim.Native.Nat.{ℕ, suc, _≤_, _<_}
 use mathlib.Core.Path.{_≡_, refl, sym, _∙_, ap}
-use mathlib.Core.Bool.{Bool, false}
+use mathlib.Core.Bool.{Bool, false, cond}
 use mathlib.Core.List.{List, _++_}
 use mathlib.Core.Logic.{_⊎_, inl, inr, ⊎-elim}
 use native.Mathlib.Omega.{arith}
@@ -11,7 +11,6 @@ use lib.ListN.{length, take, drop, length-append}
 use lib.Seq.{take-at, drop-at}
 use Rattle.walk.specs.declared.Status.{Status}
 use Rattle.walk.specs.declared.Status.the-variants.{Found, None, Going}
-use Rattle.walk.specs.Numbers.{pick}
 use Rattle.walk.specs.Network.{Network}
 use Rattle.walk.specs.Condition.{Condition}
 use Rattle.walk.specs.Question.{Question, usable, pairs, right, status}
@@ -66,17 +65,17 @@ module _ (D : Question) where
       leastTo-bound N C (D .from) (R .sound) n u p E hu hp
 
   -- what a round does whose tests pass
-  round-is : (r : ℕ) (a : List ℕ) → NoneGiven (round-tests D r a) → round D r a ≡ pick (isGoing (status D r)) (prepared D (suc r) a) (leave (progress D r) a)
+  round-is : (r : ℕ) (a : List ℕ) → NoneGiven (round-tests D r a) → round D r a ≡ cond (isGoing (status D r)) (prepared D (suc r) a) (leave (progress D r) a)
   unfolding round
   round-is r a h = judged-none a _ (round-tests D r a) h
 
   pub round-goes : (r : ℕ) (a : List ℕ) → NoneGiven (round-tests D r a) → status D r ≡ Going
       → round D r a ≡ leave (progress D (suc r)) (right D (suc r) ++ drop (pairs D) a)
   unfolding prepared
-  round-goes r a h g = round-is r a h ∙ ap (λ (S : Status). pick (isGoing S) (prepared D (suc r) a) (leave (progress D r) a)) g
+  round-goes r a h g = round-is r a h ∙ ap (λ (S : Status). cond (isGoing S) (prepared D (suc r) a) (leave (progress D r) a)) g
 
   pub round-idle : (r : ℕ) (a : List ℕ) → NoneGiven (round-tests D r a) → Finished (status D r) → round D r a ≡ leave (progress D r) a
-  round-idle r a h f = round-is r a h ∙ ap (λ (b : Bool). pick b (prepared D (suc r) a) (leave (progress D r) a)) (finished-idle (status D r) f)
+  round-idle r a h f = round-is r a h ∙ ap (λ (b : Bool). cond b (prepared D (suc r) a) (leave (progress D r) a)) (finished-idle (status D r) f)
 
   pub round-given : (r : ℕ) (a : List ℕ) {b : List ℕ} {p : Progress} → round D r a ≡ leave p b → NoneGiven (round-tests D r a)
   unfolding round

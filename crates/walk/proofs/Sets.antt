@@ -1,7 +1,7 @@
 -- The laws of sets held in a number: which numbers are in a set that is made of a test, and that a set with none in it is 0.
 use mathlib.Core.Path.{_≡_, refl, sym, ap, _∙_}
 use mathlib.Core.Logic.{_↔_, _⊎_, inl, inr, ⊎-elim}
-use mathlib.Core.Bool.{Bool, true, false, not, false≢true}
+use mathlib.Core.Bool.{Bool, true, false, not, false≢true, cond}
 use Prim.Native.Nat.{ℕ, zero, suc, _+_, _-_, _*_, _/_, _%_, _^_, _≤_, _<_, max}
 use native.Mathlib.Nat.{one-mul, div-eq-of-lt, le-of-suc-le-suc, eq-or-lt-of-le, lt-suc-self, pow-suc, lt-trans, lt-of-lt-of-le, lt-of-le-of-lt, le-div-iff-mul-le, div-le-self, not-suc-le-zero, div-self, zero-div, div-eq-of-lt-le}
 use native.Mathlib.Omega.{arith, ne-cases, max-cases}
@@ -12,7 +12,7 @@ use lib.Pow.{pow-pos, pow-lt, pow-mono, pow-add, shl-shr, shr-shr}
 use lib.Bits.{bitOr, or-lt, or-shr, or-step, shifted-even}
 use mathlib.Mathlib.Data.Bool.Basic.{eq-true-of-not-eq-false}
 use borrow.Author.Tests.{eqb-true, eqb-false, ltb-true, ltb-false, ne-eqb}
-use Rattle.walk.specs.Numbers.{has, pick, setBelow}
+use Rattle.walk.specs.Numbers.{has, setBelow}
 use Rattle.walk.proofs.Numbers.{Yes, eqb-of}
 
 -- the set is not empty
@@ -77,7 +77,7 @@ unfolding setBelow
 set-in zero p q h = absurd (zero-has q h)
 set-in (suc n) p q h = go (p n) refl h (λ k. set-in n p q k)
   where
-    go : (t : Bool) → p n ≡ t → Yes (has (pick t (bitOr (setBelow n p) (2 ^ n)) (setBelow n p)) q)
+    go : (t : Bool) → p n ≡ t → Yes (has (cond t (bitOr (setBelow n p) (2 ^ n)) (setBelow n p)) q)
         → (Yes (has (setBelow n p) q) → (q < n) × Yes (p q)) → (q < suc n) × Yes (p q)
     go true e h ih =
         ⊎-elim (λ k. let r = ih k in let l : q < n = r .0 in (omega arith, r .1)) (λ k. let z : q ≡ n = pow-has n q k in (omega arith, rw z e)) (or-has (setBelow n p) (2 ^ n) q .0 h)
@@ -88,7 +88,7 @@ unfolding setBelow
 set-of zero p q l t = absurd (not-suc-le-zero l)
 set-of (suc n) p q l t = go (p n) refl (eq-or-lt-of-le (le-of-suc-le-suc l)) (λ k. set-of n p q k t)
   where
-    go : (b : Bool) → p n ≡ b → (q ≡ n) ⊎ (q < n) → (q < n → Yes (has (setBelow n p) q)) → Yes (has (pick b (bitOr (setBelow n p) (2 ^ n)) (setBelow n p)) q)
+    go : (b : Bool) → p n ≡ b → (q ≡ n) ⊎ (q < n) → (q < n → Yes (has (setBelow n p) q)) → Yes (has (cond b (bitOr (setBelow n p) (2 ^ n)) (setBelow n p)) q)
     go true e (inl k) ih = or-has (setBelow n p) (2 ^ n) q .1 (inr (rw k (digit-has (2 ^ n) n (pow-digit n))))
     go true e (inr k) ih = or-has (setBelow n p) (2 ^ n) q .1 (inl (ih k))
     go false e (inl k) ih = absurd (false≢true (sym e ∙ rw k at t))
@@ -118,7 +118,7 @@ unfolding setBelow
 set-small zero p = lit< tt
 set-small (suc n) p = go (p n) (set-small n p)
   where
-    go : (t : Bool) → setBelow n p < 2 ^ n → pick t (bitOr (setBelow n p) (2 ^ n)) (setBelow n p) < 2 ^ suc n
+    go : (t : Bool) → setBelow n p < 2 ^ n → cond t (bitOr (setBelow n p) (2 ^ n)) (setBelow n p) < 2 ^ suc n
     go true h = or-lt (suc n) (setBelow n p) (2 ^ n) (lt-trans h (pow-lt (lt-suc-self n))) (pow-lt (lt-suc-self n))
     go false h = lt-trans h (pow-lt (lt-suc-self n))
 

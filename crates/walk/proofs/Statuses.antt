@@ -2,7 +2,7 @@
 -- no pair is left at the count, Going before either. A match of a greater length would pass through a pair at the count.
 use Prim.Native.Nat.{ℕ, suc, _≤_, _<_}
 use mathlib.Core.Path.{_≡_, refl, subst}
-use mathlib.Core.Bool.{Bool, true, false}
+use mathlib.Core.Bool.{Bool, true, false, cond}
 use mathlib.Core.List.{List}
 use mathlib.Core.Logic.{_↔_}
 use native.Mathlib.Omega.{arith}
@@ -11,7 +11,7 @@ use lib.ListN.{length}
 use borrow.Author.Tests.{eqb-true, leb-true, leb-false, ltb-true, ltb-false}
 use Rattle.walk.specs.declared.Status.{Status}
 use Rattle.walk.specs.declared.Status.the-variants.{Found, None, Going}
-use Rattle.walk.specs.Numbers.{_and_, pick, anyBelow}
+use Rattle.walk.specs.Numbers.{_and_, anyBelow}
 use Rattle.walk.specs.Network.{Network}
 use Rattle.walk.specs.Condition.{Condition, accepts}
 use Rattle.walk.specs.Walk.{Fits, LeastMatching}
@@ -27,10 +27,10 @@ record Decided (b r n : ℕ) (S : Status) : Type 0 where
   none : S ≡ None → (r < b) × (n ≡ 0)
   going : S ≡ Going → (r < b) × (0 < n)
 
-decided : (b r n : ℕ) → Decided b r n (pick (leb b r) (Found b) (pick (ltb 0 n) Going None))
+decided : (b r n : ℕ) → Decided b r n (cond (leb b r) (Found b) (cond (ltb 0 n) Going None))
 decided b r n = go (leb b r) refl (ltb 0 n) refl
   where
-    go : (t : Bool) → leb b r ≡ t → (u : Bool) → ltb 0 n ≡ u → Decided b r n (pick t (Found b) (pick u Going None))
+    go : (t : Bool) → leb b r ≡ t → (u : Bool) → ltb 0 n ≡ u → Decided b r n (cond t (Found b) (cond u Going None))
     go true e u f = record { found = λ d k. (leb-true b r e, cc); none = λ k. clash cc; going = λ k. clash cc }
     go false e true f = record { found = λ d k. clash cc; none = λ k. clash cc; going = λ k. (leb-false b r e, ltb-true 0 n f) }
     go false e false f = record { found = λ d k. clash cc; none = λ k. (leb-false b r e, (let l = ltb-false 0 n f in omega arith)); going = λ k. clash cc }

@@ -1,6 +1,7 @@
 -- Two results of a call that meet its promise are equal, as the Rattle values that are handed back and as lists of words: each reading of an answer
 -- tells its cases apart, and the number of a refusal tells its name.
 use Prim.Native.Nat.{ℕ}
+use mathlib.Core.Bool.{cond}
 use mathlib.Core.Path.{_≡_, refl, sym, _∙_, ap}
 use lib.Dec.{eqb}
 use Rattle.walk.specs.declared.Refusal.{Refusal}
@@ -11,7 +12,6 @@ use Rattle.walk.specs.declared.First.{First}
 use Rattle.walk.specs.declared.First.the-variants as first
 use Rattle.walk.specs.declared.Next.{Next}
 use Rattle.walk.specs.declared.Next.the-variants as next
-use Rattle.walk.specs.Numbers.{pick}
 use Rattle.walk.specs.Refusals.{number}
 use Rattle.walk.specs.Calls.{Answer, refused, gives, Progress, Reply, Chain, NoChain, End}
 use Rattle.walk.specs.Answers.{saidPrepared, saidFirst, saidNext, Unique}
@@ -19,8 +19,8 @@ use Rattle.walk.specs.Answers.{saidPrepared, saidFirst, saidNext, Unique
 -- the name of a number
 named : ℕ → Refusal
 named n =
-    pick (eqb n 1) Sizes (pick (eqb n 2) BadTie (pick (eqb n 3) TieOrder (pick (eqb n 4) BadCondition (pick (eqb n 5) BadMove
-    (pick (eqb n 6) BadEnds (pick (eqb n 7) ShortArea (pick (eqb n 8) WrongArea (pick (eqb n 9) Unfinished (pick (eqb n 10) ShortChain NotListed)))))))))
+    cond (eqb n 1) Sizes (cond (eqb n 2) BadTie (cond (eqb n 3) TieOrder (cond (eqb n 4) BadCondition (cond (eqb n 5) BadMove
+    (cond (eqb n 6) BadEnds (cond (eqb n 7) ShortArea (cond (eqb n 8) WrongArea (cond (eqb n 9) Unfinished (cond (eqb n 10) ShortChain NotListed)))))))))
 
 named-number : (x : Refusal) → named (number x) ≡ x
 unfolding named

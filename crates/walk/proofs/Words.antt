@@ -2,14 +2,14 @@
 -- one tie more (`word-suc`), and an area is the right one exactly if it passes a test that looks at one pair or one tie at a time (`local-law`).
 use Prim.Native.Nat.{ℕ, zero, suc, _≤_, _<_, zero-le}
 use mathlib.Core.Path.{_≡_, refl, sym, _∙_}
-use mathlib.Core.Bool.{Bool, true, false, false≢true}
+use mathlib.Core.Bool.{Bool, true, false, false≢true, cond}
 use mathlib.Core.Logic.{_↔_, _⊎_, inl, inr, ⊎-elim}
 use native.Mathlib.Nat.{eq-or-lt-of-le}
 use native.Mathlib.Omega.{arith}
 use lib.Dec.{leb, eqb}
 use borrow.Author.Tests.{leb-true, leb-false, eqb-true}
 use Rattle.walk.specs.Ceilings.{ceilings}
-use Rattle.walk.specs.Numbers.{_and_, pick, least}
+use Rattle.walk.specs.Numbers.{_and_, least}
 use Rattle.walk.specs.Network.{Network}
 use Rattle.walk.specs.Condition.{Condition, starts}
 use Rattle.walk.specs.Area.{into, reach, word}
@@ -30,10 +30,10 @@ module _ (N : Network) (C : Condition) (s : ℕ) where
   unfolding word
   word-is r v q few = go (least (λ n. reach N C s n v q) (suc r)) (least-is (λ n. reach N C s n v q) (suc r))
     where
-      go : (d : ℕ) → Least (λ n. reach N C s n v q) (suc r) d → Word r v q (pick (leb d r) d unreached)
+      go : (d : ℕ) → Least (λ n. reach N C s n v q) (suc r) d → Word r v q (cond (leb d r) d unreached)
       go d l = by (leb d r) refl
         where
-          by : (t : Bool) → leb d r ≡ t → Word r v q (pick t d unreached)
+          by : (t : Bool) → leb d r ≡ t → Word r v q (cond t d unreached)
           by true e =
               let k = leb-true d r e in
               record { small = inl k; met = λ _. l .passes (omega arith); least = λ n m t. let no-less : ¬ (n < d) = λ f. l .none-before n f t in omega arith }
@@ -60,16 +60,16 @@ module _ (N : Network) (C : Condition) (s : ℕ) where
     pub comes-of : (a : ℕ → ℕ → ℕ) (r u p v q : ℕ) → Arc N C u p v q → a u p ≡ r → Yes (comes a r v q)
     comes-of a r u p v q x w = into-of N C ok (λ u p. eqb (a u p) r) u p v q x (eqb-of {n = r} w)
 
-    pub word-zero : (v q : ℕ) → word N C s 0 v q ≡ pick (eqb s v and starts C q) 0 unreached
+    pub word-zero : (v q : ℕ) → word N C s 0 v q ≡ cond (eqb s v and starts C q) 0 unreached
     unfolding reach
     word-zero v q = one-word 0 v q _ _ (omega arith) (word-is 0 v q (omega arith)) (go (eqb s v and starts C q) refl)
       where
-        go : (t : Bool) → eqb s v and starts C q ≡ t → Word 0 v q (pick t 0 unreached)
+        go : (t : Bool) → eqb s v and starts C q ≡ t → Word 0 v q (cond t 0 unreached)
         go true e = record { small = inl zero-le; met = λ _. e; least = λ n h t. zero-le }
         go false e = record { small = inr refl; met = λ h. absurd (omega arith); least = λ n h t. let z : n ≡ 0 = omega arith in absurd (false≢true (sym e ∙ rw z at t)) }
 
     -- the words for one round more
-    pub word-suc : (r v q : ℕ) → suc r < unreached → word N C s (suc r) v q ≡ pick (leb (word N C s r v q) r) (word N C s r v q) (pick (comes (word N C s r) r v q) (suc r) unreached)
+    pub word-suc : (r v q : ℕ) → suc r < unreached → word N C s (suc r) v q ≡ cond (leb (word N C s r v q) r) (word N C s r v q) (cond (comes (word N C s r) r v q) (suc r) unreached)
     word-suc r v q few = one-word (suc r) v q _ _ few (word-is (suc r) v q few) (go (leb (word N C s r v q) r) refl (comes (word N C s r) r v q) refl)
       where
         W : (v q : ℕ) → Word r v q (word N C s r v q)
@@ -89,7 +89,7 @@ module _ (N : Network) (C : Condition) (s : ℕ) where
         none k n h t = let z = W v q .least n h t in omega arith
 
         go : (t : Bool) → leb (word N C s r v q) r ≡ t → (f : Bool) → comes (word N C s r) r v q ≡ f
-            → Word (suc r) v q (pick t (word N C s r v q) (pick f (suc r) unreached))
+            → Word (suc r) v q (cond t (word N C s r v q) (cond f (suc r) unreached))
         go true e f g =
             let k = leb-true (word N C s r v q) r e in
             let short : (n : ℕ) → n ≤ suc r → Yes (reach N C s n v q) → word N C s r v q ≤ n =

@@ -1,12 +1,12 @@
 -- Preparing by rounds: the word of a pair, the right area for r rounds, and its status.
 use Prim.Native.Nat.{ℕ, zero, suc, _*_, _/_, _%_}
-use mathlib.Core.Bool.{Bool}
+use mathlib.Core.Bool.{Bool, cond}
 use mathlib.Core.List.{List}
 use lib.Dec.{leb, ltb, eqb}
 use Rattle.walk.specs.declared.Status.{Status}
 use Rattle.walk.specs.declared.Status.the-variants.{Found, None, Going}
 use Rattle.walk.specs.Ceilings.{ceilings}
-use Rattle.walk.specs.Numbers.{has, _and_, pick, anyBelow, least, table, tally}
+use Rattle.walk.specs.Numbers.{has, _and_, anyBelow, least, table, tally}
 use Rattle.walk.specs.Network.{Network, ties, fromOf, toOf, kindsOf}
 use Rattle.walk.specs.Condition.{Condition, starts, accepts, follows}
 
@@ -31,7 +31,7 @@ module _ (N : Network) (C : Condition) where
 
     -- 01: "for each pair, the least length of a chain from s to v that reaches q if that is at most r, else 65,535"
     unfoldable pub word : ℕ → ℕ → ℕ → ℕ
-    word r v q = let d = least (λ n. reach n v q) (suc r) in pick (leb d r) d (ceilings .unreached)
+    word r v q = let d = least (λ n. reach n v q) (suc r) in cond (leb d r) d (ceilings .unreached)
 
     -- the right area for r rounds. 01: "The word at v×Q + q belongs to mark v and state q."
     unfoldable pub area : ℕ → List ℕ
@@ -49,4 +49,4 @@ module _ (N : Network) (C : Condition) where
       -- 01: "Found, with the least length: an accepting state at t has been reached. The length is the smallest such word at t. None:
       -- not Found, and no word equals the rounds done. Going: neither."
       unfoldable pub status : ℕ → Status
-      status r = pick (leb (smallest r) r) (Found (smallest r)) (pick (ltb 0 (pairsAt r)) Going None)
+      status r = cond (leb (smallest r) r) (Found (smallest r)) (cond (ltb 0 (pairsAt r)) Going None)

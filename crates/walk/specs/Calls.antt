@@ -1,14 +1,13 @@
 -- What each call answers, and every word of the buffer that it may write afterwards, for every input. Start and a round may write the area and
 -- are lent no chain buffer; first and next may write the chain buffer and are lent the area to be read.
 use Prim.Native.Nat.{ℕ, suc}
-use mathlib.Core.Bool.{true, false}
-use mathlib.Core.List.{List, [], _∷_, _++_}
+use mathlib.Core.Bool.{true, false, cond}
+use mathlib.Core.List.{List, [], _∷_, _++_, head?}
 use mathlib.Core.Option.{Option, none, some}
 use lib.ListN.{length, take, drop}
 use Rattle.walk.specs.declared.Status.{Status}
 use Rattle.walk.specs.declared.Status.the-variants.{Found, None, Going}
-use Rattle.walk.specs.Numbers.{pick}
-use Rattle.walk.specs.Chains.{firstOf, afterOf}
+use Rattle.walk.specs.Chains.{afterOf}
 use Rattle.walk.specs.Question.{Question, pairs, right, status, listing}
 use Rattle.walk.specs.Refusals.{Row, number, isGoing, start-tests, round-tests, first-tests, next-tests}
 
@@ -58,7 +57,7 @@ module _ (D : Question) where
 
   -- 01: "First gives the earliest chain in the order, or says None and writes nothing."
   abbrev pub earliest : List ℕ → Status → Done Reply (List ℕ)
-  earliest c (Found n) = put NoChain c (firstOf (listing D n))
+  earliest c (Found n) = put NoChain c (head? (listing D n))
   earliest c None = leave NoChain c
   earliest c Going = leave NoChain c
 
@@ -76,7 +75,7 @@ module _ (D : Question) where
   -- 01: "A round takes the count of rounds done and hands back the next, moving the area from the right one for r to the right one for
   -- r + 1." "A round on a Found or None area changes nothing and gives the same count and status."
   unfoldable pub round : ℕ → List ℕ → Done Progress (List ℕ)
-  round r w = judged (round-tests D r w) w (pick (isGoing (status D r)) (prepared (suc r) w) (leave (progress r) w))
+  round r w = judged (round-tests D r w) w (cond (isGoing (status D r)) (prepared (suc r) w) (leave (progress r) w))
 
   -- r is the count of rounds done, w the area, c the chain buffer
   unfoldable pub first : ℕ → List ℕ → List ℕ → Done Reply (List ℕ)

@@ -1,10 +1,10 @@
 -- The list: all matching chains of one length, in the order.
 use Prim.Native.Nat.{ℕ, zero, suc}
-use mathlib.Core.Bool.{Bool, false, _||_}
-use mathlib.Core.List.{List, [], _∷_, flatMap}
-use mathlib.Core.Option.{Option, none, some}
+use mathlib.Core.Bool.{Bool, false, _||_, cond}
+use mathlib.Core.List.{List, [], _∷_, flatMap, head?}
+use mathlib.Core.Option.{Option, none}
 use lib.Dec.{ltb, eqb}
-use Rattle.walk.specs.Numbers.{has, _and_, pick, anyBelow, table, setBelow, same}
+use Rattle.walk.specs.Numbers.{has, _and_, anyBelow, table, setBelow, same}
 use Rattle.walk.specs.Network.{Network, ties, fromOf, toOf}
 use Rattle.walk.specs.Condition.{Condition, starts, accepts}
 use Rattle.walk.specs.Area.{leads}
@@ -24,20 +24,16 @@ rows b (suc n) = flatMap (λ c. table b (λ e. e ∷ c)) (rows b n)
 -- those rows of a list that pass, in their order
 unfoldable pub sieve : (List ℕ → Bool) → List (List ℕ) → List (List ℕ)
 sieve p [] = []
-sieve p (x ∷ xs) = pick (p x) (x ∷ sieve p xs) (sieve p xs)
+sieve p (x ∷ xs) = cond (p x) (x ∷ sieve p xs) (sieve p xs)
 
--- a row of a list, its first row, and the row after c
+-- c is a row of the list, and the row after c
 unfoldable pub member : List ℕ → List (List ℕ) → Bool
 member c [] = false
 member c (x ∷ xs) = same x c || member c xs
 
-unfoldable pub firstOf : List (List ℕ) → Option (List ℕ)
-firstOf [] = none
-firstOf (x ∷ xs) = some x
-
 unfoldable pub afterOf : List ℕ → List (List ℕ) → Option (List ℕ)
 afterOf c [] = none
-afterOf c (x ∷ xs) = pick (same x c) (firstOf xs) (afterOf c xs)
+afterOf c (x ∷ xs) = cond (same x c) (head? xs) (afterOf c xs)
 
 module _ (N : Network) (C : Condition) where
   -- the chain c joins s to t

@@ -1,6 +1,6 @@
 -- The words in which the rest is written: tests over numbers, sets of numbers held in a number, tables, lists that are looked through.
 use Prim.Native.Nat.{ℕ, zero, suc, _+_, _/_, _%_, _^_}
-use mathlib.Core.Bool.{Bool, true, false, _||_}
+use mathlib.Core.Bool.{Bool, true, false, _||_, cond}
 use mathlib.Core.List.{List, [], _∷_}
 use lib.Bits.{bitOr}
 use lib.Dec.{ltb, eqb}
@@ -10,11 +10,6 @@ infixr 35 _and_
 unfoldable pub _and_ : Bool → Bool → Bool
 true and b = b
 false and b = false
-
--- one or the other, by a test
-abbrev pub pick {ℓ} : {A : Type ℓ} → Bool → A → A → A
-pick true a b = a
-pick false a b = b
 
 -- some number below n passes
 unfoldable pub anyBelow : ℕ → (ℕ → Bool) → Bool
@@ -42,12 +37,12 @@ onlyBelow n s = ltb s (2 ^ n)
 -- the set of the numbers below n that pass
 unfoldable pub setBelow : ℕ → (ℕ → Bool) → ℕ
 setBelow zero p = 0
-setBelow (suc n) p = pick (p n) (bitOr (setBelow n p) (2 ^ n)) (setBelow n p)
+setBelow (suc n) p = cond (p n) (bitOr (setBelow n p) (2 ^ n)) (setBelow n p)
 
 -- how many numbers of the list pass
 unfoldable pub tally : (ℕ → Bool) → List ℕ → ℕ
 tally p [] = 0
-tally p (x ∷ xs) = pick (p x) 1 0 + tally p xs
+tally p (x ∷ xs) = cond (p x) 1 0 + tally p xs
 
 -- the two lists are equal
 unfoldable pub same : List ℕ → List ℕ → Bool

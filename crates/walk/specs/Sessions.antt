@@ -1,8 +1,9 @@
 -- Sessions at the desk: calls made one after the other on what was lent once, each with its answer and with both buffers after it.
 use Prim.Native.Nat.{ℕ, zero, suc, _+_}
+use mathlib.Core.Bool.{cond}
 use mathlib.Core.List.{List, [], _∷_}
 use Rattle.walk.specs.declared.Status.{Status}
-use Rattle.walk.specs.Numbers.{has, _and_, pick}
+use Rattle.walk.specs.Numbers.{has, _and_}
 use Rattle.walk.specs.Network.{Network, kindsOf}
 use Rattle.walk.specs.Condition.{Condition, starts, accepts, follows}
 use Rattle.walk.specs.Question.{Question, usable}
@@ -16,11 +17,11 @@ sumBelow (suc n) f = f n + sumBelow n f
 module _ (N : Network) (C : Condition) where
   -- how many ways lead along the chain from the state p to an accepting state, and from any start state
   unfoldable pub waysFrom : ℕ → List ℕ → ℕ
-  waysFrom p [] = pick (accepts C p) 1 0
-  waysFrom p (e ∷ c) = sumBelow (C .states) (λ q. sumBelow (N .kinds) (λ k. pick (has (kindsOf N e) k and follows C p k q) (waysFrom q c) 0))
+  waysFrom p [] = cond (accepts C p) 1 0
+  waysFrom p (e ∷ c) = sumBelow (C .states) (λ q. sumBelow (N .kinds) (λ k. cond (has (kindsOf N e) k and follows C p k q) (waysFrom q c) 0))
 
   unfoldable pub ways : List ℕ → ℕ
-  ways c = sumBelow (C .states) (λ p. pick (starts C p) (waysFrom p c) 0)
+  ways c = sumBelow (C .states) (λ p. cond (starts C p) (waysFrom p c) 0)
 
 -- the four calls, with the count of rounds that is handed in; and the question, which is no call, in how many ways a chain can be met
 pub data Call : Type 0 where
