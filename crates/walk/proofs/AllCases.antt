@@ -33,6 +33,5 @@ claims = record {
   listed = refl;
   lone-started = refl;
   lone-once = refl;
-  four-ways = refl;
   refused = refl;
 }

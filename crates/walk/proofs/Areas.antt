@@ -20,16 +20,7 @@ use Rattle.walk.proofs.Numbers.{eqb-of, getD-table, length-table, table
 use Rattle.walk.proofs.Executable.{Sound, arc-in}
 use Rattle.walk.proofs.Words.{unreached, Right, comes, comes-in, comes-of, word-zero, word-suc}
 
--- places: pairs of v below V and q below Q, and numbers below V×Q
-pub place-in : (m n v q : ℕ) → v < m → q < n → v * n + q < m * n
-place-in m n v q hv hq = digits-lt hv hq
-
-pub mark-of : (n v q : ℕ) → q < n → (v * n + q) / n ≡ v
-mark-of n v q hq = digits-div v hq
-
-pub state-of : (n v q : ℕ) → q < n → (v * n + q) % n ≡ q
-state-of n v q hq = digits-mod v hq
-
+-- a place below V×Q belongs to a mark below V and a state below Q
 pub pair-in : (m n i : ℕ) → i < m * n → (i / n < m) × (i % n < n)
 pair-in m zero i h = absurd (not-suc-le-zero (rw mul-zero at h))
 pair-in m (suc n) i h = let p : 0 < suc n = omega arith in (div-lt-iff-lt-mul p .1 h, mod-lt i p)
@@ -39,12 +30,12 @@ module _ (N : Network) (C : Condition) (s : ℕ) where
   unfolding area
   length-area r = length-table _ _
 
-  pub area-get : (r i : ℕ) → i < pairs N C → getD (area N C s r) i 0 ≡ word N C s r (i / C .states) (i % C .states)
+  area-get : (r i : ℕ) → i < pairs N C → getD (area N C s r) i 0 ≡ word N C s r (i / C .states) (i % C .states)
   unfolding area
   area-get r i h = getD-table _ _ i 0 h
 
   pub area-at : (r v q : ℕ) → v < N .marks → q < C .states → getD (area N C s r) (v * C .states + q) 0 ≡ word N C s r v q
-  area-at r v q hv hq = area-get r (v * C .states + q) (place-in (N .marks) (C .states) v q hv hq) ∙ rw (mark-of (C .states) v q hq, state-of (C .states) v q hq) refl
+  area-at r v q hv hq = area-get r (v * C .states + q) (digits-lt hv hq) ∙ rw (digits-div v hq, digits-mod v hq) refl
 
   -- the word of a pair in an area
   abbrev pub at : List ℕ → ℕ → ℕ → ℕ
@@ -54,7 +45,7 @@ module _ (N : Network) (C : Condition) (s : ℕ) where
   area-right r l h = (to, of)
     where
       to : take (pairs N C) l ≡ area N C s r → Right N C s r (at l)
-      to e v q hv hq = sym (getD-take (pairs N C) l (v * C .states + q) 0 (place-in (N .marks) (C .states) v q hv hq)) ∙ ap (λ (k : List ℕ). at k v q) e ∙ area-at r v q hv hq
+      to e v q hv hq = sym (getD-take (pairs N C) l (v * C .states + q) 0 (digits-lt hv hq)) ∙ ap (λ (k : List ℕ). at k v q) e ∙ area-at r v q hv hq
 
       of : Right N C s r (at l) → take (pairs N C) l ≡ area N C s r
       of R = ext-getD 0 _ _ (length-take-le _ l h ∙ sym (length-area r)) at-place
@@ -74,7 +65,7 @@ module _ (N : Network) (C : Condition) (s : ℕ) where
         let b : i < pairs N C = rw (length-area r) at l in
         let (hu, hp) = pair-in (N .marks) (C .states) i b in
         (i / C .states, i % C .states, hu, hp, sym (area-get r i b) ∙ sym (eqb-true r (getD (area N C s r) i 0) e)),
-    λ (u, p, hu, hp, e). tally-of (eqb r) (area N C s r) (u * C .states + p) (rw (length-area r) (place-in (N .marks) (C .states) u p hu hp)) (eqb-of {m = r} (sym (area-at r u p hu hp ∙ e))),
+    λ (u, p, hu, hp, e). tally-of (eqb r) (area N C s r) (u * C .states + p) (rw (length-area r) (digits-lt hu hp)) (eqb-of {m = r} (sym (area-at r u p hu hp ∙ e))),
   )
 
   -- what start and a round write

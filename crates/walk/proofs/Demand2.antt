@@ -6,6 +6,7 @@ use mathlib.Core.List.{List, _++_}
 use mathlib.Core.Logic.{_↔_, inl, inr, ⊎-elim}
 use native.Mathlib.Nat.{zero-add}
 use native.Mathlib.Omega.{arith}
+use lib.Arith.{digits-lt}
 use lib.ListN.{length, getD, drop, List·getD-append}
 use lib.Seq.{drop-at, length-front, length-take-le}
 use Rattle.walk.specs.declared.Status.{Status}
@@ -20,7 +21,7 @@ use Rattle.walk.specs.Demands.{Finished, RightWord, NoMatch, PairAt, Sta
 use Rattle.walk.proofs.Numbers.{first-one}
 use Rattle.walk.proofs.Executable.{Sound}
 use Rattle.walk.proofs.Words.{unreached, word-is}
-use Rattle.walk.proofs.Areas.{area-at, place-in}
+use Rattle.walk.proofs.Areas.{area-at}
 use Rattle.walk.proofs.Lengths.{leastTo-law, leastTo-bound, standing, word-leastTo, leastTo-word}
 use Rattle.walk.proofs.Statuses.{matched, matched-law, shortest-law, shortest-bound, found-is, going-is, none-is}
 use Rattle.walk.proofs.Refusals.{Ready, ready}
@@ -136,7 +137,7 @@ module _ (D : Question) (w : List ℕ) where
     unfolding right usable
     at-pair v q hv hq =
         ap (λ (l : List ℕ). getD l (v * D .condition .states + q) 0) (H .area)
-        ∙ List·getD-append (right D n) (drop (pairs D) w) 0 (v * D .condition .states + q) (rw (right-long D n) (place-in (D .network .marks) (D .condition .states) v q hv hq))
+        ∙ List·getD-append (right D n) (drop (pairs D) w) 0 (v * D .condition .states + q) (rw (right-long D n) (digits-lt hv hq))
         ∙ area-at (usable D) (D .condition) (D .from) n v q hv hq
 
     none-exactly : Finished (p .status) → (p .status ≡ None) ↔ NoMatch D

@@ -27,7 +27,7 @@ pub record Sound (N : Network) (C : Condition) : Type 0 where
   pub accept-in : (q : ℕ) → Yes (accepts C q) → q < C .states
 
 module _ (N : Network) (C : Condition) where
-  pub joins-law : (s : ℕ) (c : List ℕ) (t : ℕ) → Yes (joins N C s c t) ↔ Joins N s c t
+  pub joins-law : (s : ℕ) (c : List ℕ) (t : ℕ) → Yes (joins N s c t) ↔ Joins N s c t
   unfolding joins
   joins-law s [] t = (λ h. eqb-true _ _ h, λ h. eqb-of h)
   joins-law s (e ∷ c) t =

@@ -7,6 +7,7 @@ use mathlib.Core.List.{List}
 use mathlib.Core.Logic.{_↔_, _⊎_, inl, inr, ⊎-elim}
 use native.Mathlib.Nat.{not-suc-le-zero}
 use native.Mathlib.Omega.{arith}
+use lib.Arith.{digits-lt, digits-div, digits-mod}
 use lib.Dec.{eqb}
 use lib.ListN.{length}
 use borrow.Author.Tests.{eqb-true, eqb-false}
@@ -17,7 +18,7 @@ use Rattle.walk.specs.Area.{pairs, reach, word, area, pairsAt}
 use Rattle.walk.proofs.Numbers.{Yes, FirstAt, first-one, table-ext}
 use Rattle.walk.proofs.Executable.{Sound, Arc, arc-in, reach-law, reach-suc, suc-reach}
 use Rattle.walk.proofs.Words.{unreached, Word, word-is, one-word}
-use Rattle.walk.proofs.Areas.{place-in, mark-of, state-of, pair-in, pairsAt-law}
+use Rattle.walk.proofs.Areas.{pair-in, pairsAt-law}
 
 -- n numbers below m that differ are at most m
 pigeon : (m n : ℕ) (f : ℕ → ℕ) → ((i : ℕ) → i < n → f i < m) → ((i j : ℕ) → i < j → j < n → f i ≡ f j → ⊥) → n ≤ m
@@ -110,12 +111,12 @@ module _ (N : Network) (C : Condition) (s : ℕ) where
         f r = at r .0 * C .states + at r .1
 
         low : (i : ℕ) → i < suc d → f i < pairs N C
-        low i h = place-in (N .marks) (C .states) (at i .0) (at i .1) (at i .2) (at i .3)
+        low i h = digits-lt (at i .2) (at i .3)
 
         apart : (i j : ℕ) → i < j → j < suc d → f i ≡ f j → ⊥
         apart i j l u e =
-            let m : at i .0 ≡ at j .0 = sym (mark-of (C .states) (at i .0) (at i .1) (at i .3)) ∙ ap (λ (k : ℕ). k / C .states) e ∙ mark-of (C .states) (at j .0) (at j .1) (at j .3) in
-            let n : at i .1 ≡ at j .1 = sym (state-of (C .states) (at i .0) (at i .1) (at i .3)) ∙ ap (λ (k : ℕ). k % C .states) e ∙ state-of (C .states) (at j .0) (at j .1) (at j .3) in
+            let m : at i .0 ≡ at j .0 = sym (digits-div (at i .0) (at i .3)) ∙ ap (λ (k : ℕ). k / C .states) e ∙ digits-div (at j .0) (at j .3) in
+            let n : at i .1 ≡ at j .1 = sym (digits-mod (at i .0) (at i .3)) ∙ ap (λ (k : ℕ). k % C .states) e ∙ digits-mod (at j .0) (at j .3) in
             let E : LeastTo (min i d) (at j .0) (at j .1) = subst₂ (λ (x y : ℕ). LeastTo (min i d) x y) m n (at i .4) in
             let z = first-one (λ m. reach N C s m (at j .0) (at j .1)) (min i d) (min j d) E (at j .4) in
             omega arith

@@ -8,8 +8,7 @@ use Rattle.walk.specs.declared.Status.the-variants.{Found, None, Going}
 use Rattle.walk.specs.Walk.{LeastMatching, Listed}
 use Rattle.walk.specs.Refusals.{Row, number, next-tests}
 use Rattle.walk.specs.Calls.{Progress}
-use Rattle.walk.specs.Sessions.{ways}
-use Rattle.walk.specs.Cases.{netN, setsN, condN, N, blank, after2, lone, lone0, buf}
+use Rattle.walk.specs.Cases.{condN, N, blank, after2, lone, lone0, buf}
 use Rattle.walk.specs.Demands.{FirstGiven, Made, begun, again, NoMatch, RightAfter, Counted, Lists}
 use Rattle.walk.proofs.Numbers.{clash}
 use Rattle.walk.proofs.AllCases.{claims}
@@ -32,7 +31,7 @@ finished e = clash cc
 pub refused-11 : (x : Row) × FirstGiven (next-tests N 2 after2 (buf 0 4)) x × (number (x .name) ≡ 11) × (x .place ≡ 0)
 refused-11 = demand-1 N 2 after2 (buf 0 4) .of-next .exactly 11 0 .0 (claims .refused)
 
--- demand 2: the area of two rounds is right, so the least length from 0 to mark 3 and state 1 is 2; and the least length of a match is 2
+-- demand 2: the area of two rounds is right, and the least length of a match is 2
 prepared : RightAfter N blank 2 found2 after2
 prepared = demand-2 N blank .right 2 found2 after2 made
 
@@ -62,6 +61,6 @@ lists = demand-3 N .found 2 found2 after2 (prepared .idle finished) refl
 pub three-chains : (c : List ℕ) → List·Memᴰ c ((0 ∷ 3 ∷ []) ∷ (1 ∷ 3 ∷ []) ∷ (2 ∷ 4 ∷ []) ∷ []) ↔ Listed (usable N) (condN 1) 0 3 c
 three-chains c = subst (λ (l : List (List ℕ)). List·Memᴰ c l ↔ Listed (usable N) (condN 1) 0 3 c) (claims .listed) (lists .all c)
 
--- chain 0 3 can be met in four ways and stands once
-pub stands-once : (ways (netN setsN) (condN 1) (0 ∷ 3 ∷ []) ≡ 4) × (List·Memᴰ {A = List ℕ} (0 ∷ 3 ∷ []) ((1 ∷ 3 ∷ []) ∷ (2 ∷ 4 ∷ []) ∷ []) → ⊥)
-stands-once = (claims .four-ways, lists .once [] ((1 ∷ 3 ∷ []) ∷ (2 ∷ 4 ∷ []) ∷ []) (0 ∷ 3 ∷ []) (claims .listed) .1)
+-- chain 0 3, which can be met in four ways, stands once
+pub stands-once : List·Memᴰ {A = List ℕ} (0 ∷ 3 ∷ []) ((1 ∷ 3 ∷ []) ∷ (2 ∷ 4 ∷ []) ∷ []) → ⊥
+stands-once = lists .once [] ((1 ∷ 3 ∷ []) ∷ (2 ∷ 4 ∷ []) ∷ []) (0 ∷ 3 ∷ []) (claims .listed) .1

@@ -1,6 +1,5 @@
--- The laws of the tests over numbers: what a test that passes says, and that it passes. A loop of the code that fills, looks for the first
--- or for any has here what a turn and the end need.
-use Prim.Native.Nat.{ℕ, zero, suc, _+_, _≤_, _<_, zero-le, suc-le-suc}
+-- The laws of the tests over numbers, of tables and of lists of numbers: what a test that passes says, and when it passes.
+use Prim.Native.Nat.{ℕ, zero, suc, _+_, _≤_, _<_}
 use mathlib.Core.Path.{_≡_, refl, sym, subst, ap, ap₂, _∙_}
 use mathlib.Core.Bool.{Bool, true, false, _||_, false≢true, cond}
 use mathlib.Core.List.{List, [], _∷_}
@@ -48,21 +47,20 @@ anyBelow-of zero p i h t = absurd (not-suc-le-zero h)
 anyBelow-of (suc n) p i h t =
     ⊎-elim (λ e. or-inl (p n) (anyBelow n p) (subst (λ (k : ℕ). Yes (p k)) e t)) (λ l. or-inr (p n) (anyBelow n p) (anyBelow-of n p i l t)) (eq-or-lt-of-le (le-of-suc-le-suc h))
 
--- the least number: it is at most b, it passes if it is below b, and none before it passes
+-- the least number: it passes if it is below b, and none before it passes
 pub record Least (p : ℕ → Bool) (b k : ℕ) : Type 0 where
-  pub within : k ≤ b
   pub passes : k < b → Yes (p k)
   pub none-before : (m : ℕ) → m < k → Yes (p m) → ⊥
 
 pub least-is : (p : ℕ → Bool) (b : ℕ) → Least p b (least p b)
 unfolding least
-least-is p zero = record { within = zero-le; passes = λ h. absurd (not-suc-le-zero h); none-before = λ m h. absurd (not-suc-le-zero h) }
+least-is p zero = record { passes = λ h. absurd (not-suc-le-zero h); none-before = λ m h. absurd (not-suc-le-zero h) }
 least-is p (suc b) = go (p zero) refl (least-is (λ n. p (suc n)) b)
   where
     go : (t : Bool) → p zero ≡ t → Least (λ n. p (suc n)) b (least (λ n. p (suc n)) b)
         → Least p (suc b) (elim t [ true ↦ zero | false ↦ suc (least (λ n. p (suc n)) b) ])
-    go true e r = record { within = zero-le; passes = λ h. e; none-before = λ m h. absurd (not-suc-le-zero h) }
-    go false e r = record { within = suc-le-suc (r .within); passes = λ h. r .passes (le-of-suc-le-suc h); none-before = nb }
+    go true e r = record { passes = λ h. e; none-before = λ m h. absurd (not-suc-le-zero h) }
+    go false e r = record { passes = λ h. r .passes (le-of-suc-le-suc h); none-before = nb }
       where
         nb : (m : ℕ) → m < suc (least (λ n. p (suc n)) b) → Yes (p m) → ⊥
         nb zero h t = false≢true (sym e ∙ t)

@@ -55,14 +55,14 @@ module _ (D : Question) where
   unfoldable pub prepared : ℕ → List ℕ → Done Progress (List ℕ)
   prepared r w = leave (progress r) (right D r ++ drop (pairs D) w)
 
-  -- 01: "First gives the earliest chain in the order, or says None and writes nothing."
+  -- 01: "First gives the earliest chain in the order, or says None and writes nothing." While Going it was refused before.
   abbrev pub earliest : List ℕ → Status → Done Reply (List ℕ)
   earliest c (Found n) = put NoChain c (head? (listing D n))
   earliest c None = leave NoChain c
   earliest c Going = leave NoChain c
 
   -- 01: "Next reads a chain from the front of the chain buffer (16-bit words, as many as the least length) and puts the chain after it
-  -- in its place, or says End and writes nothing."
+  -- in its place, or says End and writes nothing." With None or while Going it was refused before.
   abbrev pub later : List ℕ → Status → Done Reply (List ℕ)
   later c (Found n) = put End c (afterOf (take n c) (listing D n))
   later c None = leave End c

@@ -35,12 +35,12 @@ unfoldable pub afterOf : List ℕ → List (List ℕ) → Option (List ℕ)
 afterOf c [] = none
 afterOf c (x ∷ xs) = cond (same x c) (head? xs) (afterOf c xs)
 
-module _ (N : Network) (C : Condition) where
-  -- the chain c joins s to t
-  unfoldable pub joins : ℕ → List ℕ → ℕ → Bool
-  joins s [] t = eqb s t
-  joins s (e ∷ c) t = ltb e (ties N) and eqb (fromOf N e) s and joins (toOf N e) c t
+-- the chain c joins s to t
+unfoldable pub joins : Network → ℕ → List ℕ → ℕ → Bool
+joins N s [] t = eqb s t
+joins N s (e ∷ c) t = ltb e (ties N) and eqb (fromOf N e) s and joins N (toOf N e) c t
 
+module _ (N : Network) (C : Condition) where
   -- the set of states that follow the set S along a tie, and along a chain
   unfoldable pub along : ℕ → ℕ → ℕ
   along S e = setBelow (C .states) (λ q. anyBelow (C .states) (λ p. has S p and leads N C e p q))
@@ -51,7 +51,7 @@ module _ (N : Network) (C : Condition) where
 
   -- the chain c goes from s to t and matches: the start states carried along it hold an accepting one
   unfoldable pub fits : ℕ → ℕ → List ℕ → Bool
-  fits s t c = joins s c t and anyBelow (C .states) (λ q. accepts C q and has (reached (setBelow (C .states) (starts C)) c) q)
+  fits s t c = joins N s c t and anyBelow (C .states) (λ q. accepts C q and has (reached (setBelow (C .states) (starts C)) c) q)
 
   -- all matching chains of length n from s to t, in the order
   unfoldable pub list : ℕ → ℕ → ℕ → List (List ℕ)

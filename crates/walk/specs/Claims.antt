@@ -11,7 +11,7 @@ use Rattle.walk.specs.Chains as C
 use Rattle.walk.specs.Question as Q
 use Rattle.walk.specs.Refusals as R
 use Rattle.walk.specs.Calls as K
-use Rattle.walk.specs.Sessions.{run, ways}
+use Rattle.walk.specs.Sessions.{run}
 use Rattle.walk.specs.Cases.{starred, netN, setsN, condN, N, blank, after0, after1, after2, lone, lone0, buf}
 use Rattle.walk.specs.OwnCases.{own}
 
@@ -50,5 +50,4 @@ pub record Claims : Type 0 where
   pub listed : Q.listing N 2 ≡ (0 ∷ 3 ∷ []) ∷ (1 ∷ 3 ∷ []) ∷ (2 ∷ 4 ∷ []) ∷ []
   pub lone-started : K.start lone blank ≡ said 0 Going lone0
   pub lone-once : K.round lone 0 lone0 ≡ said 1 None lone0
-  pub four-ways : ways (netN setsN) (condN 1) (0 ∷ 3 ∷ []) ≡ 4
   pub refused : K.next N 2 after2 (buf 0 4) .answer ≡ K.refused 11 0

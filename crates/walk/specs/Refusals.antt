@@ -115,7 +115,7 @@ module _ (D : Question) where
   unfoldable pub shortChain : ℕ → List ℕ → Row
   shortChain r c = row ShortChain (ltb (length c) (lengthOf (status D r))) (lengthOf (status D r))
 
-  -- "next, when the chain handed in is no listed chain, or status None"
+  -- "next, when the chain handed in is no listed chain, or status None"; while Going 9 comes first
   abbrev pub unlisted : List ℕ → Status → Bool
   unlisted c (Found n) = not (member (take n c) (listing D n))
   unlisted c None = true
