@@ -1,8 +1,8 @@
 #!/usr/bin/env python3
 """independent_lister.py SEED SESSIONS: random sessions at the desk, with every answer and buffer as document 01 says.
 
-A lister that shares nothing with the definitions: it goes forward from s by layers, and lists by trying every
-row of ties. It prints a table in the form of crates/walk/specs/OwnCases.antt, which the gate has the prover
+A lister that shares nothing with the definitions: it takes least lengths from the sets of chains, and lists by
+trying every row of ties. It prints a table in the form of crates/walk/specs/OwnCases.antt, which the gate has the prover
 compute from the definitions. On standard error it says how often each answer occurs.
 """
 import collections
@@ -21,18 +21,18 @@ def members(bits):
 
 
 def words(q, rounds):
-    """The right area: pairs are reached layer by layer, from the start states at s."""
-    length = {(q.s, p): 0 for p in members(q.start)}
-    layer = set(length)
-    for n in range(1, rounds + 1):
-        layer = {
-            (to, after)
-            for mark, state in layer
-            for fro, to, kinds in zip(q.froms, q.tos, q.sets) if fro == mark
-            for before, kind, after in q.moves if before == state and kind in members(kinds)
-        } - set(length)
-        length.update((pair, n) for pair in layer)
-    return [length.get((v, p), UNREACHED) for v in range(q.marks) for p in range(q.states)]
+    """The right area, from the chains themselves: all chains from s of each length, told apart by the mark where they end
+    and the states that they reach."""
+    least, ends = {}, {(q.s, frozenset(members(q.start)))}
+    for length in range(rounds + 1):
+        for mark, reached in ends:
+            for state in reached:
+                least.setdefault((mark, state), length)
+        ends = {
+            (to, frozenset(after for before, kind, after in q.moves if before in reached and kind in members(kinds)))
+            for mark, reached in ends for fro, to, kinds in zip(q.froms, q.tos, q.sets) if fro == mark and reached
+        }
+    return [least.get((v, p), UNREACHED) for v in range(q.marks) for p in range(q.states)]
 
 
 def status(q, rounds):
@@ -257,4 +257,5 @@ def main():
     print(", ".join("%s: %d" % pair for pair in sorted(heard.items())), file=sys.stderr)
 
 
-main()
+if __name__ == "__main__":
+    main()

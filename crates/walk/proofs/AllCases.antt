@@ -14,7 +14,7 @@ use Rattle.walk.specs.OwnCases.{own}
 use Rattle.walk.specs.Claims.{Claims}
 
 pub claims : Claims
-unfolding starred own run play ways waysFrom sumBelow has _and_ anyBelow least table onlyBelow setBelow tally same Q.usable starts accepts follows A.leads A.into A.reach A.word A.area A.pairsAt A.smallest A.status C.before flatMap C.rows C.sieve C.member C.afterOf C.joins C.along C.reached C.fits C.list Q.right Q.status Q.listing R.sizes R.badTie R.tieOrder R.badCondition R.badMove R.badEnds R.shortArea R.wrongArea R.unfinished R.shortChain R.notListed R.lent-tests R.start-tests R.round-tests R.list-tests R.first-tests R.next-tests K.judged K.progress K.prepared K.start K.round K.first K.next
+unfolding starred own run play ways waysFrom sumBelow has _and_ anyBelow least table onlyBelow setBelow tally same Q.usable starts accepts follows A.leads A.into A.reach A.word A.area A.pairsAt A.smallest A.status C.before flatMap C.rows C.sieve C.member C.afterOf C.joins C.along C.reached C.fits C.list Q.right Q.status Q.listing R.badSizes R.badTieAt R.lateAt R.badStates R.badMoveAt R.sizes R.badTie R.tieOrder R.badCondition R.badMove R.badEnds R.shortArea R.wrongArea R.unfinished R.shortChain R.notListed R.lent-tests R.start-tests R.round-tests R.list-tests R.first-tests R.next-tests K.judged K.progress K.prepared K.start K.round K.first K.next
 claims = record {
   starred-cases = refl;
   own-cases = refl;

@@ -1,5 +1,5 @@
 -- The laws of the tests over numbers, of tables and of lists of numbers: what a test that passes says, and when it passes.
-use Prim.Native.Nat.{ℕ, zero, suc, _+_, _≤_, _<_}
+use Prim.Native.Nat.{ℕ, zero, suc, _+_, _≤_, _<_, zero-le}
 use mathlib.Core.Path.{_≡_, refl, sym, subst, ap, ap₂, _∙_}
 use mathlib.Core.Bool.{Bool, true, false, _||_, false≢true, cond}
 use mathlib.Core.List.{List, [], _∷_}
@@ -65,6 +65,24 @@ least-is p (suc b) = go (p zero) refl (least-is (λ n. p (suc n)) b)
         nb : (m : ℕ) → m < suc (least (λ n. p (suc n)) b) → Yes (p m) → ⊥
         nb zero h t = false≢true (sym e ∙ t)
         nb (suc m) h t = r .none-before m (le-of-suc-le-suc h) t
+
+least-le : (p : ℕ → Bool) (b : ℕ) → least p b ≤ b
+unfolding least
+least-le p zero = zero-le
+least-le p (suc b) = go (p zero) (least-le (λ n. p (suc n)) b)
+  where
+    go : (t : Bool) → least (λ n. p (suc n)) b ≤ b → elim t [ true ↦ zero | false ↦ suc (least (λ n. p (suc n)) b) ] ≤ suc b
+    go true h = zero-le
+    go false h = omega arith
+
+-- and it is known by that
+pub least-one : (p : ℕ → Bool) (b k : ℕ) → k ≤ b → Least p b k → k ≡ least p b
+least-one p b k l K =
+    let L = least-is p b in
+    let h = least-le p b in
+    let x : ¬ (least p b < k) = λ m. K .none-before (least p b) m (L .passes (omega arith)) in
+    let y : ¬ (k < least p b) = λ m. L .none-before k m (K .passes (omega arith)) in
+    omega arith
 
 -- d is the least number of all that passes
 pub record FirstAt (p : ℕ → Bool) (d : ℕ) : Type 0 where

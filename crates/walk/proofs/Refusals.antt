@@ -18,7 +18,7 @@ use Rattle.walk.specs.Numbers.{has, _and_, least, onlyBelow}
 use Rattle.walk.specs.Network.{Network, ties, toOf, kindsOf}
 use Rattle.walk.specs.Condition.{Condition, moveAt, starts, accepts, follows}
 use Rattle.walk.specs.Question.{Question, pairs, right, usable}
-use Rattle.walk.specs.Refusals.{Row, atFirst, number, sizes, badTie, tieOrder, badCondition, badMove, badEnds, shortArea, wrongArea, lent-tests, start-tests, round-tests}
+use Rattle.walk.specs.Refusals.{Row, atFirst, number, badSizes, badTieAt, lateAt, badStates, badMoveAt, sizes, badTie, tieOrder, badCondition, badMove, badEnds, shortArea, wrongArea, lent-tests, start-tests, round-tests}
 use Rattle.walk.specs.Calls.{refused, Done, judged}
 use Rattle.walk.specs.Demands.{NoneGiven, FirstGiven, Says, SaysFirst, SizesRight, TieRight, InOrder, ConditionRight, MoveRight, Accepted}
 use Rattle.walk.proofs.Numbers.{Yes, and-in, and-of, eqb-of, anyBelow-in, Least, least-is, same-eq, same-of}
@@ -113,7 +113,7 @@ module _ (D : Question) where
 
   -- refusals 1 to 6, each in the words of the table
   sizes-law : (sizes D .given ≡ false) ↔ SizesRight D
-  unfolding sizes
+  unfolding sizes badSizes
   sizes-law = (
     λ e. let (a, x) = and-in _ _ (not-given _ .0 e) in
         let (b, y) = and-in _ _ x in
@@ -129,11 +129,11 @@ module _ (D : Question) where
   )
 
   pub row-1 : Says 1 (SizesRight D) 0 (sizes D)
-  unfolding sizes
+  unfolding sizes badSizes
   row-1 = record { numbered = refl; passes = sizes-law; placed = refl }
 
   pub row-2 : SaysFirst 2 (ties N) (TieRight D) (badTie D)
-  unfolding badTie
+  unfolding badTie badTieAt
   row-2 = asks-each BadTie (ties N) _ (TieRight D) (λ e. (
     λ g. let (a, x) = and-in _ _ (not-given _ .0 g) in
         let (b, y) = and-in _ _ x in
@@ -157,11 +157,11 @@ module _ (D : Question) where
   )
 
   pub row-3 : SaysFirst 3 (ties N) (InOrder D) (tieOrder D)
-  unfolding tieOrder
+  unfolding tieOrder lateAt
   row-3 = asks-each TieOrder (ties N) _ (InOrder D) in-order
 
   condition-law : (badCondition D .given ≡ false) ↔ ConditionRight D
-  unfolding badCondition
+  unfolding badCondition badStates
   condition-law = (
     λ e. let (a, x) = and-in _ _ (not-given _ .0 e) in
         let (b, y) = and-in _ _ x in
@@ -174,11 +174,11 @@ module _ (D : Question) where
   )
 
   pub row-4 : Says 4 (ConditionRight D) 0 (badCondition D)
-  unfolding badCondition
+  unfolding badCondition badStates
   row-4 = record { numbered = refl; passes = condition-law; placed = refl }
 
   pub row-5 : SaysFirst 5 (length (C .moves)) (MoveRight D) (badMove D)
-  unfolding badMove
+  unfolding badMove badMoveAt
   row-5 = asks-each BadMove (length (C .moves)) _ (MoveRight D) (λ j. (
     λ g. let (a, x) = and-in _ _ (not-given _ .0 g) in
         let (b, c) = and-in _ _ x in

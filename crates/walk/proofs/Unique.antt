@@ -6,23 +6,21 @@ use mathlib.Core.Path.{_≡_, refl, sym, _∙_, ap}
 use lib.Dec.{eqb}
 use Rattle.walk.specs.declared.Refusal.{Refusal}
 use Rattle.walk.specs.declared.Refusal.the-variants.{Sizes, BadTie, TieOrder, BadCondition, BadMove, BadEnds, ShortArea, WrongArea, Unfinished, ShortChain, NotListed}
-use Rattle.walk.specs.declared.Prepared.{Prepared}
-use Rattle.walk.specs.declared.Prepared.the-variants as prepared
 use Rattle.walk.specs.declared.First.{First}
 use Rattle.walk.specs.declared.First.the-variants as first
 use Rattle.walk.specs.declared.Next.{Next}
 use Rattle.walk.specs.declared.Next.the-variants as next
 use Rattle.walk.specs.Refusals.{number}
-use Rattle.walk.specs.Calls.{Answer, refused, gives, Progress, Reply, Chain, NoChain, End}
-use Rattle.walk.specs.Answers.{saidPrepared, saidFirst, saidNext, Unique}
+use Rattle.walk.specs.Calls.{Answer, refused, gives, Reply, Chain, NoChain, End}
+use Rattle.walk.specs.Answers.{saidFirst, saidNext, Unique}
 
 -- the name of a number
-named : ℕ → Refusal
+pub named : ℕ → Refusal
 named n =
     cond (eqb n 1) Sizes (cond (eqb n 2) BadTie (cond (eqb n 3) TieOrder (cond (eqb n 4) BadCondition (cond (eqb n 5) BadMove
     (cond (eqb n 6) BadEnds (cond (eqb n 7) ShortArea (cond (eqb n 8) WrongArea (cond (eqb n 9) Unfinished (cond (eqb n 10) ShortChain NotListed)))))))))
 
-named-number : (x : Refusal) → named (number x) ≡ x
+pub named-number : (x : Refusal) → named (number x) ≡ x
 unfolding named
 named-number Sizes = refl
 named-number BadTie = refl
@@ -37,14 +35,6 @@ named-number ShortChain = refl
 named-number NotListed = refl
 
 -- each answer can be read back from what it says
-abbrev readPrepared : Answer Progress → Prepared
-readPrepared (refused n p) = prepared.Refused (named n) p
-readPrepared (gives a) = prepared.After (record { done = a .done }) (a .status)
-
-prepared-back : (a : Prepared) → readPrepared (saidPrepared a) ≡ a
-prepared-back (prepared.After r s) = refl
-prepared-back (prepared.Refused n p) = ap (λ (x : Refusal). prepared.Refused x p) (named-number n)
-
 abbrev readFirst : Answer Reply → First
 readFirst (refused n p) = first.Refused (named n) p
 readFirst (gives Chain) = first.Chain
@@ -68,11 +58,8 @@ next-back next.End = refl
 next-back (next.Refused n p) = ap (λ (x : Refusal). next.Refused x p) (named-number n)
 
 -- so what meets a promise is one
-unique : {A R B : Type 0} (said : R → Answer A) (read : Answer A → R) → ((a : R) → read (said a) ≡ a) → Unique said B
+pub unique : {A R B : Type 0} (said : R → Answer A) (read : Answer A → R) → ((a : R) → read (said a) ≡ a) → Unique said B
 unique said read back d a b v w m n = (sym (back a) ∙ ap read (m .answers ∙ sym (n .answers)) ∙ back b, m .leaves ∙ sym (n .leaves))
-
-pub unique-prepared : (B : Type 0) → Unique saidPrepared B
-unique-prepared B = unique saidPrepared readPrepared prepared-back
 
 pub unique-first : (B : Type 0) → Unique saidFirst B
 unique-first B = unique saidFirst readFirst first-back

@@ -7,30 +7,27 @@ use Rattle.walk.specs.declared.Network as network
 use Rattle.walk.specs.declared.Condition as condition
 use Rattle.walk.specs.declared.Ask.{Ask}
 use Rattle.walk.specs.declared.Move.{Move}
-use Rattle.walk.specs.declared.Prepared.{Prepared}
-use Rattle.walk.specs.declared.Prepared.the-variants as prepared
 use Rattle.walk.specs.declared.First.{First}
 use Rattle.walk.specs.declared.First.the-variants as first
 use Rattle.walk.specs.declared.Next.{Next}
 use Rattle.walk.specs.declared.Next.the-variants as next
+use Rattle.walk.specs.Network.{Network}
+use Rattle.walk.specs.Condition.{Condition}
 use Rattle.walk.specs.Question.{Question}
 use Rattle.walk.specs.Refusals.{number}
-use Rattle.walk.specs.Calls.{Answer, refused, gives, Progress, Reply, Chain, NoChain, End, Done}
+use Rattle.walk.specs.Calls.{Answer, refused, gives, Reply, Chain, NoChain, End, Done}
 
 -- what is lent, as the definitions speak of it
+abbrev pub networkOf : network.Network → List ℕ → List ℕ → List ℕ → Network
+networkOf n froms tos sets = record { marks = n .marks; kinds = n .kinds; froms = froms; tos = tos; sets = sets }
+
+abbrev pub conditionOf : condition.Condition → List Move → Condition
+conditionOf c moves = record { states = c .states; start = c .start; accept = c .accept; moves = moves }
+
 abbrev pub question : network.Network → condition.Condition → Ask → List ℕ → List ℕ → List ℕ → List Move → Question
-question n c a froms tos sets moves = record {
-  network = record { marks = n .marks; kinds = n .kinds; froms = froms; tos = tos; sets = sets };
-  condition = record { states = c .states; start = c .start; accept = c .accept; moves = moves };
-  from = a .from;
-  to = a .to;
-}
+question n c a froms tos sets moves = record { network = networkOf n froms tos sets; condition = conditionOf c moves; from = a .from; to = a .to }
 
 -- what each case of an answer says
-abbrev pub saidPrepared : Prepared → Answer Progress
-saidPrepared (prepared.After r s) = gives (record { done = r .done; status = s })
-saidPrepared (prepared.Refused n p) = refused (number n) p
-
 abbrev pub saidFirst : First → Answer Reply
 saidFirst first.Chain = gives Chain
 saidFirst first.None = gives NoChain

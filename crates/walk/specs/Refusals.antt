@@ -58,6 +58,30 @@ lengthOf (Found n) = n
 lengthOf None = 0
 lengthOf Going = 0
 
+-- "V, K or E past its ceiling or V, K zero, or columns of unequal length"
+unfoldable pub badSizes : Network → Bool
+badSizes N =
+    not (within 1 (N .marks) (ceilings .marks) and within 1 (N .kinds) (ceilings .kinds) and leb (ties N) (ceilings .ties)
+    and eqb (length (N .tos)) (ties N) and eqb (length (N .sets)) (ties N))
+
+-- tie e "names a mark not below V or a kind not below K"
+unfoldable pub badTieAt : Network → ℕ → Bool
+badTieAt N e = not (ltb (fromOf N e) (N .marks) and ltb (toOf N e) (N .marks) and onlyBelow (N .kinds) (kindsOf N e))
+
+-- the to mark of tie e "is below that of the tie before"
+unfoldable pub lateAt : Network → ℕ → Bool
+lateAt N e = ltb 0 e and ltb (toOf N e) (toOf N (e - 1))
+
+-- "Q or the move count outside its ceiling, or a start or accepting state not below Q"
+unfoldable pub badStates : Condition → Bool
+badStates C =
+    not (within 1 (C .states) (ceilings .states) and leb (length (C .moves)) (ceilings .moves)
+    and onlyBelow (C .states) (C .start) and onlyBelow (C .states) (C .accept))
+
+-- with K kinds, move j "names a state not below Q or a kind not below K"
+unfoldable pub badMoveAt : ℕ → Condition → ℕ → Bool
+badMoveAt K C j = let m = moveAt C j in not (ltb (m .from) (C .states) and ltb (m .kind) K and ltb (m .to) (C .states))
+
 module _ (D : Question) where
   abbrev N : Network
   N = D .network
@@ -65,35 +89,22 @@ module _ (D : Question) where
   abbrev C : Condition
   C = D .condition
 
-  -- "V, K or E past its ceiling or V, K zero, or columns of unequal length"
   unfoldable pub sizes : Row
-  sizes =
-      row Sizes (not (
-      within 1 (N .marks) (ceilings .marks) and within 1 (N .kinds) (ceilings .kinds) and leb (ties N) (ceilings .ties)
-      and eqb (length (N .tos)) (ties N) and eqb (length (N .sets)) (ties N))) 0
+  sizes = row Sizes (badSizes N) 0
 
-  -- "a tie names a mark not below V or a kind not below K", at the "first such tie"
+  -- at the "first such tie"
   unfoldable pub badTie : Row
-  badTie =
-      atFirst BadTie (ties N)
-      (λ e. not (ltb (fromOf N e) (N .marks) and ltb (toOf N e) (N .marks) and onlyBelow (N .kinds) (kindsOf N e)))
+  badTie = atFirst BadTie (ties N) (badTieAt N)
 
-  -- "a tie's to mark is below that of the tie before", at the "first such tie"
   unfoldable pub tieOrder : Row
-  tieOrder = atFirst TieOrder (ties N) (λ e. ltb 0 e and ltb (toOf N e) (toOf N (e - 1)))
+  tieOrder = atFirst TieOrder (ties N) (lateAt N)
 
-  -- "Q or the move count outside its ceiling, or a start or accepting state not below Q"
   unfoldable pub badCondition : Row
-  badCondition =
-      row BadCondition (not (
-      within 1 (C .states) (ceilings .states) and leb (length (C .moves)) (ceilings .moves)
-      and onlyBelow (C .states) (C .start) and onlyBelow (C .states) (C .accept))) 0
+  badCondition = row BadCondition (badStates C) 0
 
-  -- "a move names a state not below Q or a kind not below K", at the "first such move"
+  -- at the "first such move"
   unfoldable pub badMove : Row
-  badMove =
-      atFirst BadMove (length (C .moves))
-      (λ j. let m = moveAt C j in not (ltb (m .from) (C .states) and ltb (m .kind) (N .kinds) and ltb (m .to) (C .states)))
+  badMove = atFirst BadMove (length (C .moves)) (badMoveAt (N .kinds) C)
 
   -- "s or t not below V"
   unfoldable pub badEnds : Row

@@ -52,11 +52,6 @@ pub struct Ask {
     pub to: usize,
 }
 
-// How many rounds were done. It comes from the caller, so any count can stand in it.
-pub struct Rounds {
-    pub done: usize,
-}
-
 pub enum Status {
     Found(usize),
     None,
@@ -76,12 +71,6 @@ pub enum Refusal {
     Unfinished,
     ShortChain,
     NotListed,
-}
-
-// The answer of start and of a round.
-pub enum Prepared {
-    After(Rounds, Status),
-    Refused(Refusal, usize),
 }
 
 // The answer of first: the earliest chain stands in the buffer, or there is none.

@@ -1,0 +1,71 @@
+// The step table: the set of states that follow state p under kind k stands at k×32 + p. A call brings the moves into it once; after that
+// nothing looks at a move.
+
+ghost use mathlib.Core.Bool.{true};
+ghost use mathlib.Core.Path.{_≡_};
+ghost use Prim.Native.Nat.{ℕ, _+_, _*_, _<_, _^_};
+ghost use lib.ListN.{length, getD, set};
+ghost use lib.Bits.{bitOr};
+ghost use Rattle.walk.specs.Numbers.{has};
+ghost use Rattle.walk.specs.Answers.{conditionOf};
+ghost use Rattle.tables.specs.Lent.{movesOf};
+ghost use Rattle.tables.specs.Steps.{Clear, InRange, Filled, steps};
+use walk::Condition;
+use crate::numbers::Kind;
+use crate::numbers::State;
+
+// One move more: from p under k to q. Beside the table, for each kind the states that have a move by it.
+fn put(table: &mut [u32; 1024], sources: &mut [u32; 32], p: State, k: Kind, q: State)
+    requires { ⌜ (p .0 < 32) × (k .0 < 32) × (q .0 < 32) ⌝ }
+    ensures table { λ _. ⌜ now (table .exit) ≡ set (now (table .entry)) (k .0 * 32 + p .0) (bitOr (getD (now (table .entry)) (k .0 * 32 + p .0) 0) (2 ^ q .0)) ⌝ }
+    ensures sources { λ _. ⌜ now (sources .exit) ≡ set (now (sources .entry)) (k .0) (bitOr (getD (now (sources .entry)) (k .0) 0) (2 ^ p .0)) ⌝ }
+{
+    let kind = k.index();
+    let at = kind * 32 + p.index();
+    table[at] = crate::sets::with(table[at], q.index());
+    sources[kind] = crate::sets::with(sources[kind], p.index());
+}
+
+// The table of the moves.
+pub fn fill(
+    table: &mut [u32; 1024],
+    sources: &mut [u32; 32],
+    condition: Condition,
+    kinds: usize,
+    moves: usize,
+    movefrom: &[u16; Condition::MOVES],
+    movekind: &[u16; Condition::MOVES],
+    moveto: &[u16; Condition::MOVES],
+)
+    requires { ⌜ Clear (now table) 1024 × Clear (now sources) 32 × InRange kinds (conditionOf condition (movesOf moves (now movefrom) (now movekind) (now moveto))) ⌝ }
+    ensures { λ _. ⌜ Filled (now (table .exit)) (now (sources .exit)) (conditionOf condition (movesOf moves (now (movefrom .entry)) (now (movekind .entry)) (now (moveto .entry)))) ⌝ }
+{
+    let states = condition.states;
+    let mut j = 0;
+    while j < moves {
+        let p = State::fetched(movefrom, j, states);
+        let k = Kind::fetched(movekind, j, kinds);
+        let q = State::fetched(moveto, j, states);
+        put(table, sources, p, k, q);
+        j += 1;
+    }
+}
+
+// The states that follow p along a tie with these kinds.
+pub fn nexts(table: &[u32; 1024], set: u32, kinds: usize, p: State) -> u32
+    requires { ⌜ (p .0 < 32) × (kinds < 33) × ((k : ℕ) → has set k ≡ true → k < kinds) ⌝ }
+    ensures { λ r. ⌜ ((q : ℕ) → has r q ≡ steps (now (table .entry)) set (p .0) q) ⌝ }
+{
+    let mut all = 0u32;
+    let mut rest = set;
+    let mut n = 0;
+    while rest != 0 {
+        let z = crate::sets::lowest(rest);
+        n += z;
+        let k = Kind::tested(n, kinds);
+        all = all | table[k.index() * 32 + p.index()];
+        rest = crate::sets::above(rest, z);
+        n += 1;
+    }
+    all
+}
