@@ -48,7 +48,11 @@ impl Mark {
     pub fn checked(n: usize, marks: usize) -> MarkEntry
         ensures { λ r. ⌜ r ≡ markEntry n marks ⌝ }
     {
-        if n < marks { MarkEntry::Is(Mark(n)) } else { MarkEntry::Not }
+        if n < marks {
+            MarkEntry::Is(Mark(n))
+        } else {
+            MarkEntry::Not
+        }
     }
 
     // The entry of a number that was tested: it succeeds.
@@ -73,7 +77,11 @@ impl Tie {
     pub fn checked(n: usize, ties: usize) -> TieEntry
         ensures { λ r. ⌜ r ≡ tieEntry n ties ⌝ }
     {
-        if n < ties { TieEntry::Is(Tie(n)) } else { TieEntry::Not }
+        if n < ties {
+            TieEntry::Is(Tie(n))
+        } else {
+            TieEntry::Not
+        }
     }
 
     pub fn tested(n: usize, ties: usize) -> Tie
@@ -116,7 +124,11 @@ impl Kind {
     pub fn checked(n: usize, kinds: usize) -> KindEntry
         ensures { λ r. ⌜ r ≡ kindEntry n kinds ⌝ }
     {
-        if n < kinds { KindEntry::Is(Kind(n)) } else { KindEntry::Not }
+        if n < kinds {
+            KindEntry::Is(Kind(n))
+        } else {
+            KindEntry::Not
+        }
     }
 
     pub fn tested(n: usize, kinds: usize) -> Kind
@@ -148,7 +160,11 @@ impl State {
     pub fn checked(n: usize, states: usize) -> StateEntry
         ensures { λ r. ⌜ r ≡ stateEntry n states ⌝ }
     {
-        if n < states { StateEntry::Is(State(n)) } else { StateEntry::Not }
+        if n < states {
+            StateEntry::Is(State(n))
+        } else {
+            StateEntry::Not
+        }
     }
 
     pub fn tested(n: usize, states: usize) -> State

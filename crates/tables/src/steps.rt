@@ -10,9 +10,9 @@ ghost use Rattle.walk.specs.Numbers.{has};
 ghost use Rattle.walk.specs.Answers.{conditionOf};
 ghost use Rattle.tables.specs.Lent.{movesOf};
 ghost use Rattle.tables.specs.Steps.{Clear, InRange, Filled, steps};
-use walk::Condition;
 use crate::numbers::Kind;
 use crate::numbers::State;
+use walk::Condition;
 
 // One move more: from p under k to q. Beside the table, for each kind the states that have a move by it.
 fn put(table: &mut [u32; 1024], sources: &mut [u32; 32], p: State, k: Kind, q: State)

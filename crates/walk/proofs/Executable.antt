@@ -54,11 +54,11 @@ module _ (N : Network) (C : Condition) where
     pub steps : Yes (leads N C tie p q)
 
   module _ (ok : Sound N C) where
-    leads-of : (e p q k : ℕ) → Yes (has (kindsOf N e) k) → Yes (follows C p k q) → Yes (leads N C e p q)
+    pub leads-of : (e p q k : ℕ) → Yes (has (kindsOf N e) k) → Yes (follows C p k q) → Yes (leads N C e p q)
     unfolding leads
     leads-of e p q k h f = anyBelow-of _ _ k (ok .kind-in e k h) (and-of h f)
 
-    leads-in : (e p q : ℕ) → Yes (leads N C e p q) → (k : ℕ) × Yes (has (kindsOf N e) k) × Yes (follows C p k q)
+    pub leads-in : (e p q : ℕ) → Yes (leads N C e p q) → (k : ℕ) × Yes (has (kindsOf N e) k) × Yes (follows C p k q)
     unfolding leads
     leads-in e p q h = let (k, _, x) = anyBelow-in _ _ h in let (a, b) = and-in _ _ x in (k, a, b)
 
