@@ -206,10 +206,10 @@ pub fn tested(
     }
     let ties = from.len();
     let tie = first_bad_tie(network, ties, from, to, kinds);
+    let late = first_late(ties, to);
     if tie < ties {
         return Verdict::Refused(Refusal::BadTie, tie);
     }
-    let late = first_late(ties, to);
     if late < ties {
         return Verdict::Refused(Refusal::TieOrder, late);
     }

@@ -32,10 +32,10 @@ abbrev s1 : tie.Else1 → tie.Start
 s1 c = c .before .before .before .before .before .before
 
 abbrev s2 : tie.Else2 → tie.Start
-s2 c = s1 (c .before .before)
+s2 c = s1 (c .before .before .before)
 
 abbrev s3 : tie.Else3 → tie.Start
-s3 c = s2 (c .before .before)
+s3 c = s2 (c .before)
 
 abbrev s4 : tie.Else4 → tie.Start
 s4 c = s3 (c .before .before)
@@ -55,11 +55,11 @@ from-2 c = row-passes _ _ (from-1 (s1 c)) (sym (c .before .bad-sizes .ensures) �
 
 from-3 : (c : tie.Else2) → From (s2 c) rows-3
 unfolding badTie
-from-3 c = none-answers _ _ _ _ _ (from-2 (c .before .before)) refl (c .before .first-bad-tie .ensures) (c .if2 .left)
+from-3 c = none-answers _ _ _ _ _ (from-2 (c .before .before .before)) refl (c .before .before .first-bad-tie .ensures) (c .if2 .left)
 
 from-4 : (c : tie.Else3) → From (s3 c) rows-4
 unfolding tieOrder
-from-4 c = none-answers _ _ _ _ _ (from-3 (c .before .before)) refl (c .before .first-late .ensures _ _ _) (c .if3 .left)
+from-4 c = none-answers _ _ _ _ _ (from-3 (c .before)) refl (c .before .before .first-late .ensures _ _ _) (c .if3 .left)
 
 states-said : (c : tie.After-bad-states) → badCondition (asked (s3 (c .before))) .given ≡ c .bad-states .result
 unfolding badCondition
@@ -95,16 +95,16 @@ returns c = row-answers _ _ (from-1 (c .before .before .before .before .before .
 first-bad-tie-requires : tie.Need-first-bad-tie-requires
 first-bad-tie-requires c κs = let S = sizes-in c in (S .kinds .1, refl, S .columns .0, S .columns .1)
 
+first-late-requires : tie.Need-first-late-requires
+first-late-requires c κs = sizes-in (c .before) .columns .0
+
 returns-2 : tie.Need-returns-2
 unfolding badTie
-returns-2 c = first-answers _ _ _ _ _ (from-2 (c .before .before)) refl (c .before .first-bad-tie .ensures) (c .if2 .taken)
-
-first-late-requires : tie.Need-first-late-requires
-first-late-requires c κs = sizes-in (c .before .before) .columns .0
+returns-2 c = first-answers _ _ _ _ _ (from-2 (c .before .before .before)) refl (c .before .before .first-bad-tie .ensures) (c .if2 .taken)
 
 returns-3 : tie.Need-returns-3
 unfolding tieOrder
-returns-3 c = first-answers _ _ _ _ _ (from-3 (c .before .before)) refl (c .before .first-late .ensures _ _ _) (c .if3 .taken)
+returns-3 c = first-answers _ _ _ _ _ (from-3 (c .before)) refl (c .before .before .first-late .ensures _ _ _) (c .if3 .taken)
 
 bad-states-requires : tie.Need-bad-states-requires
 bad-states-requires c κs = search needs
@@ -147,8 +147,8 @@ tested-spec =
     bad-sizes-requires
     returns
     first-bad-tie-requires
-    returns-2
     first-late-requires
+    returns-2
     returns-3
     bad-states-requires
     returns-4

@@ -1,0 +1,48 @@
+-- What the tests leave: with refusals 1 to 7 passed, the question is accepted and there is room, so the columns, the moves and the area are as the
+-- functions below the calls ask for them.
+use Prim.Native.Nat.{ℕ, zero, suc, _-_, _*_, _≤_, _<_}
+use mathlib.Core.Path.{_≡_, refl, sym, _∙_, ap}
+use mathlib.Core.List.{List}
+use native.Mathlib.Omega.{arith}
+use lib.ListN.{length, take, drop}
+use lib.Seq.{take-all}
+use Rattle.walk.specs.declared.Network as network
+use Rattle.walk.specs.declared.Condition as condition
+use Rattle.walk.specs.declared.Ask.{Ask}
+use Rattle.walk.specs.declared.Move.{Move}
+use Rattle.walk.specs.Question.{Question, pairs}
+use Rattle.walk.specs.Refusals.{start-tests}
+use Rattle.walk.specs.Demands.{Accepted}
+use Rattle.walk.specs.Answers.{conditionOf, question}
+use Rattle.walk.proofs.Refusals.{accepted-law, start-passes}
+use Rattle.tables.specs.declared.tests.Verdict.the-variants.{Passed}
+use Rattle.tables.specs.Tests.{firstGiven}
+use Rattle.tables.specs.Steps.{InRange, Filled}
+use Rattle.tables.proofs.Verdicts.{passed-none}
+use Rattle.rounds.specs.Judged.{Lent}
+
+pub accepted : (D : Question) (w : List ℕ) → firstGiven (start-tests D w) ≡ Passed → Accepted D × (pairs D ≤ length w)
+accepted D w e = let (a, b) = start-passes D w .0 (passed-none _ e) in (accepted-law D .0 a, b)
+
+module _ (n : network.Network) (c : condition.Condition) (a : Ask) (from to sets : List ℕ) (m : List Move) (acc : Accepted (question n c a from to sets m)) where
+  pub in-range : InRange (n .kinds) (conditionOf c m)
+  in-range = record {
+    kinds = acc .sizes .kinds .1;
+    states = acc .condition .states .1;
+    few = acc .condition .few;
+    from-in = λ j h. acc .move j h .from;
+    kind-in = λ j h. acc .move j h .kind;
+    to-in = λ j h. acc .move j h .to;
+  }
+
+  pub lent : (T S A : List ℕ) → Filled T S (conditionOf c m) → n .marks * c .states ≤ length A → Lent n c (length from) from to sets T S A
+  lent T S A F room = record {
+    size = record { few = acc .sizes .marks .1; kinds-few = acc .sizes .kinds .1; narrow = acc .condition .states .1; room = room };
+    columns = record { froms = refl; kind-sets = acc .sizes .columns .1; from-in = λ e h. acc .tie e h .from; kind-in = λ e h. acc .tie e h .kinds };
+    rising = record { size = acc .sizes .columns .0; mark-in = λ e h. acc .tie e h .to; rises = λ e h. acc .order (suc e) h e refl };
+    leads = F .leads;
+  }
+
+-- a part that is the whole
+pub cut-all : {A : Type 0} (l : List A) (k : ℕ) → k ≡ length l → take (k - 0) (drop 0 l) ≡ l
+cut-all l k e = take-all (k - 0) l (omega arith)

@@ -1,0 +1,10 @@
+pub mod Lowering
+pub mod RowLaws
+pub mod AliveLaws
+pub mod Offered
+pub mod Judging
+pub mod Advancing
+pub mod Standing
+pub mod Meeting
+pub mod Unique
+pub mod Lending

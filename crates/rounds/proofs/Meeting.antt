@@ -1,0 +1,92 @@
+-- What start and a round answer and leave meets their definitions: where the tests refuse, the first row given answers; where they pass, a list of
+-- rows with the area's row behind it comes down to that row; and the area's row and the status decide what a round does.
+use Prim.Native.Nat.{ℕ, suc, _+_, _≤_, _<_}
+use mathlib.Core.Path.{_≡_, refl, sym, _∙_, ap}
+use mathlib.Core.Bool.{Bool, true, false, false≢true, cond}
+use mathlib.Core.List.{List, [], _∷_, _++_, List·Memᴰ·head, List·Memᴰ·tail}
+use mathlib.Core.Logic.{_↔_, ⊎-elim}
+use mathlib.Mathlib.Data.Bool.Basic.{eq-true-of-not-eq-false}
+use native.Mathlib.Omega.{arith}
+use lib.ListN.{length, take, drop}
+use Rattle.walk.specs.declared.Refusal.{Refusal}
+use Rattle.walk.specs.declared.Refusal.the-variants.{WrongArea}
+use Rattle.walk.specs.declared.Status.{Status}
+use Rattle.walk.specs.declared.Status.the-variants.{Going}
+use Rattle.walk.specs.Question.{Question, usable, pairs, right, status}
+use Rattle.walk.specs.Refusals.{Row, number, isGoing, wrongArea, start-tests, round-tests}
+use Rattle.walk.specs.Calls.{Answer, refused, gives, Progress, Done, leave, judged, progress, prepared, start, round}
+use Rattle.walk.specs.Demands.{NoneGiven, Accepted}
+use Rattle.walk.specs.Answers.{Meets}
+use Rattle.walk.proofs.Refusals.{judged-none, area-tested}
+use Rattle.tables.specs.declared.tests.Verdict.the-variants.{Passed, Refused}
+use Rattle.tables.specs.Tests.{firstGiven}
+use Rattle.tables.proofs.Verdicts.{refused-answers, passed-none}
+use Rattle.rounds.specs.Judged.{turned}
+
+pub meets-as : {A B : Type 0} (d d′ : Done A B) (x : Answer A) (w : B) → d ≡ d′ → Meets d′ x w → Meets d x w
+meets-as d d′ x w e M = rw e M
+
+-- rows put behind others
+given-before : (l k : List Row) (n : Refusal) (p : ℕ) → firstGiven l ≡ Refused n p → firstGiven (l ++ k) ≡ Refused n p
+unfolding firstGiven
+given-before [] k n p e = absurd (let z : _≡_ {A = ℕ} 0 1 = cc in omega arith)
+given-before (x ∷ l) k n p e = go (x .given) refl e (λ f. given-before l k n p f)
+  where
+    go : (t : Bool) → x .given ≡ t → elim t [ true ↦ Refused (x .name) (x .place) | false ↦ firstGiven l ] ≡ Refused n p
+        → (firstGiven l ≡ Refused n p → firstGiven (l ++ k) ≡ Refused n p)
+        → elim (x .given) [ true ↦ Refused (x .name) (x .place) | false ↦ firstGiven (l ++ k) ] ≡ Refused n p
+    go true g f ih = rw g f
+    go false g f ih = rw g (ih f)
+
+module _ {A B : Type 0} (w : B) (d : Done A B) where
+  judged-behind : (l k : List Row) → NoneGiven l → judged (l ++ k) w d ≡ judged k w d
+  unfolding judged
+  judged-behind [] k h = refl
+  judged-behind (x ∷ l) k h = rw (h x (List·Memᴰ·head refl)) (judged-behind l k (λ y m. h y (List·Memᴰ·tail m)))
+
+module _ (D : Question) (w : List ℕ) where
+  -- the tests refuse
+  pub start-refused : (n : Refusal) (p : ℕ) → firstGiven (start-tests D w) ≡ Refused n p → Meets (start D w) (refused (number n) p) w
+  unfolding start
+  start-refused n p e = meets-as _ _ _ w (refused-answers w _ (start-tests D w) n p e) (record { answers = refl; leaves = refl })
+
+  pub round-refused : (r : ℕ) (n : Refusal) (p : ℕ) → firstGiven (start-tests D w) ≡ Refused n p → Meets (round D r w) (refused (number n) p) w
+  unfolding round round-tests
+  round-refused r n p e = meets-as _ _ _ w (refused-answers w _ _ n p (given-before (start-tests D w) _ n p e)) (record { answers = refl; leaves = refl })
+
+  -- the tests pass
+  pub start-passed : (w′ : List ℕ) → firstGiven (start-tests D w) ≡ Passed → w′ ≡ right D 0 ++ drop (pairs D) w → Meets (start D w) (gives (record { done = 0; status = status D 0 })) w′
+  unfolding start prepared progress
+  start-passed w′ e f = meets-as _ _ _ w′ (judged-none w _ (start-tests D w) (passed-none _ e)) (record { answers = refl; leaves = f })
+
+  pub round-passed : (r : ℕ) (x : Answer Progress) (w′ : List ℕ) → firstGiven (start-tests D w) ≡ Passed → Meets (turned D r w) x w′ → Meets (round D r w) x w′
+  unfolding round round-tests turned
+  round-passed r x w′ e M = meets-as _ _ x w′ (judged-behind w _ (start-tests D w) _ (passed-none _ e)) M
+
+  -- the area's row is given
+  wrong-is : (r : ℕ) → _≡_ {A = Answer Progress} (refused (number WrongArea) 0) (refused (number (wrongArea D r w .name)) (wrongArea D r w .place))
+  unfolding wrongArea
+  wrong-is r = refl
+
+  pub turned-refused : (r : ℕ) → ((r ≤ pairs D) → take (pairs D) w ≡ right D r → ⊥) → Meets (turned D r w) (refused (number WrongArea) 0) w
+  unfolding turned judged
+  turned-refused r never =
+      let g : wrongArea D r w .given ≡ true = eq-true-of-not-eq-false (λ e. let (a, b) = area-tested D r w .0 e in never a b) in
+      rw g (record { answers = wrong-is r; leaves = refl })
+
+  -- it is not
+  module _ (r : ℕ) (few : r ≤ pairs D) (is-right : take (pairs D) w ≡ right D r) where
+    behind : turned D r w ≡ cond (isGoing (status D r)) (prepared D (suc r) w) (leave (progress D r) w)
+    unfolding turned judged
+    behind = rw (area-tested D r w .1 (few, is-right)) refl
+
+    pub turned-stays : (S : Status) → S ≡ status D r → isGoing S ≡ false → Meets (turned D r w) (gives (record { done = r; status = S })) w
+    unfolding progress
+    turned-stays S e f =
+        meets-as _ _ _ w (behind ∙ ap (λ (t : Bool). cond t (prepared D (suc r) w) (leave (progress D r) w)) (ap isGoing (sym e) ∙ f)) (record { answers = ap (λ (s : Status). gives (record { done = r; status = s })) e; leaves = refl })
+
+    pub turned-goes : (S : Status) (w′ : List ℕ) → status D r ≡ Going → S ≡ status D (suc r) → w′ ≡ right D (suc r) ++ drop (pairs D) w → Meets (turned D r w) (gives (record { done = suc r; status = S })) w′
+    unfolding prepared progress
+    turned-goes S w′ e f g =
+        meets-as _ _ _ w′ (behind ∙ ap (λ (t : Status). cond (isGoing t) (prepared D (suc r) w) (leave (progress D r) w)) e)
+        (record { answers = ap (λ (s : Status). gives (record { done = suc r; status = s })) f; leaves = g })

@@ -1,0 +1,5 @@
+pub mod Answers
+pub mod Judged
+pub mod Offers
+pub mod Rows
+pub mod Standing
