@@ -19,7 +19,8 @@ use Rattle.tables.specs.declared.tests.Verdict.the-variants.{Passed}
 use Rattle.tables.specs.Tests.{firstGiven}
 use Rattle.tables.specs.Steps.{InRange, Filled}
 use Rattle.tables.proofs.Verdicts.{passed-none}
-use Rattle.rounds.specs.Judged.{Lent}
+use Rattle.rounds.specs.Judged.{Lent, Turns}
+use Rattle.rounds.specs.declared.Prepared.{Prepared}
 
 pub accepted : (D : Question) (w : List ℕ) → firstGiven (start-tests D w) ≡ Passed → Accepted D × (pairs D ≤ length w)
 accepted D w e = let (a, b) = start-passes D w .0 (passed-none _ e) in (accepted-law D .0 a, b)
@@ -46,3 +47,11 @@ module _ (n : network.Network) (c : condition.Condition) (a : Ask) (from to sets
 -- a part that is the whole
 pub cut-all : {A : Type 0} (l : List A) (k : ℕ) → k ≡ length l → take (k - 0) (drop 0 l) ≡ l
 cut-all l k e = take-all (k - 0) l (omega arith)
+
+-- what is said of the columns cut to the ties is said of the columns
+module _ {n : network.Network} {c : condition.Condition} {from from′ to to′ sets sets′ : List ℕ} (e : from′ ≡ from) (f : to′ ≡ to) (g : sets′ ≡ sets) where
+  pub lent-cut : {ties : ℕ} {T S A : List ℕ} → Lent n c ties from to sets T S A → Lent n c ties from′ to′ sets′ T S A
+  lent-cut L = rw (e, f, g) L
+
+  pub turns-cut : (a : Ask) (T A A′ : List ℕ) (r : ℕ) (x : Prepared) → Turns n c a from′ to′ sets′ T r A x A′ → Turns n c a from to sets T r A x A′
+  turns-cut a T A A′ r x L = rw (e, f, g) at L

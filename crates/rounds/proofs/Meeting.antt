@@ -7,7 +7,9 @@ use mathlib.Core.List.{List, [], _∷_, _++_, List·Memᴰ·head, List·Memᴰ·
 use mathlib.Core.Logic.{_↔_, ⊎-elim}
 use mathlib.Mathlib.Data.Bool.Basic.{eq-true-of-not-eq-false}
 use native.Mathlib.Omega.{arith}
+use native.Mathlib.Numerals.{add-one}
 use lib.ListN.{length, take, drop}
+use lib.Seq.{take-at}
 use Rattle.walk.specs.declared.Refusal.{Refusal}
 use Rattle.walk.specs.declared.Refusal.the-variants.{WrongArea}
 use Rattle.walk.specs.declared.Status.{Status}
@@ -17,6 +19,7 @@ use Rattle.walk.specs.Refusals.{Row, number, isGoing, wrongArea, start-tests, r
 use Rattle.walk.specs.Calls.{Answer, refused, gives, Progress, Done, leave, judged, progress, prepared, start, round}
 use Rattle.walk.specs.Demands.{NoneGiven, Accepted}
 use Rattle.walk.specs.Answers.{Meets}
+use Rattle.walk.proofs.Areas.{length-area}
 use Rattle.walk.proofs.Refusals.{judged-none, area-tested}
 use Rattle.tables.specs.declared.tests.Verdict.the-variants.{Passed, Refused}
 use Rattle.tables.specs.Tests.{firstGiven}
@@ -55,9 +58,10 @@ module _ (D : Question) (w : List ℕ) where
   round-refused r n p e = meets-as _ _ _ w (refused-answers w _ _ n p (given-before (start-tests D w) _ n p e)) (record { answers = refl; leaves = refl })
 
   -- the tests pass
-  pub start-passed : (w′ : List ℕ) → firstGiven (start-tests D w) ≡ Passed → w′ ≡ right D 0 ++ drop (pairs D) w → Meets (start D w) (gives (record { done = 0; status = status D 0 })) w′
+  pub start-passed : (S : Status) (w′ : List ℕ) → firstGiven (start-tests D w) ≡ Passed → S ≡ status D 0 → w′ ≡ right D 0 ++ drop (pairs D) w → Meets (start D w) (gives (record { done = 0; status = S })) w′
   unfolding start prepared progress
-  start-passed w′ e f = meets-as _ _ _ w′ (judged-none w _ (start-tests D w) (passed-none _ e)) (record { answers = refl; leaves = f })
+  start-passed S w′ e f g =
+      meets-as _ _ _ w′ (judged-none w _ (start-tests D w) (passed-none _ e)) (record { answers = ap (λ (s : Status). gives (record { done = 0; status = s })) f; leaves = g })
 
   pub round-passed : (r : ℕ) (x : Answer Progress) (w′ : List ℕ) → firstGiven (start-tests D w) ≡ Passed → Meets (turned D r w) x w′ → Meets (round D r w) x w′
   unfolding round round-tests turned
@@ -85,8 +89,14 @@ module _ (D : Question) (w : List ℕ) where
     turned-stays S e f =
         meets-as _ _ _ w (behind ∙ ap (λ (t : Bool). cond t (prepared D (suc r) w) (leave (progress D r) w)) (ap isGoing (sym e) ∙ f)) (record { answers = ap (λ (s : Status). gives (record { done = r; status = s })) e; leaves = refl })
 
-    pub turned-goes : (S : Status) (w′ : List ℕ) → status D r ≡ Going → S ≡ status D (suc r) → w′ ≡ right D (suc r) ++ drop (pairs D) w → Meets (turned D r w) (gives (record { done = suc r; status = S })) w′
+    pub turned-goes : (F S : Status) (w′ : List ℕ) → F ≡ status D r → isGoing F ≡ true → S ≡ status D (r + 1) → w′ ≡ right D (suc r) ++ drop (pairs D) w
+        → Meets (turned D r w) (gives (record { done = r + 1; status = S })) w′
     unfolding prepared progress
-    turned-goes S w′ e f g =
-        meets-as _ _ _ w′ (behind ∙ ap (λ (t : Status). cond (isGoing t) (prepared D (suc r) w) (leave (progress D r) w)) e)
-        (record { answers = ap (λ (s : Status). gives (record { done = suc r; status = s })) f; leaves = g })
+    turned-goes F S w′ e f g h =
+        meets-as _ _ _ w′ (behind ∙ ap (λ (t : Bool). cond t (prepared D (suc r) w) (leave (progress D r) w)) (ap isGoing (sym e) ∙ f))
+        (record { answers = rw (g, add-one) refl; leaves = h })
+
+-- the words of a right area stand in front
+pub in-front : (D : Question) (r : ℕ) (w w′ : List ℕ) → w′ ≡ right D r ++ drop (pairs D) w → take (pairs D) w′ ≡ right D r
+unfolding right usable
+in-front D r w w′ e = rw e (take-at (right D r) (drop (pairs D) w) (pairs D) (length-area (usable D) (D .condition) (D .from) r))

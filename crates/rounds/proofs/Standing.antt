@@ -102,7 +102,7 @@ module _ (D : Question) (r : ℕ) (A : List ℕ) (is-right : take (pairs D) A �
       at-place : (i : ℕ) → i < pairs D → getD A i 0 ≡ getD (area (D .network) (D .condition) (D .from) r) i 0
       at-place i h = sym (getD-take (pairs D) A i 0 h) ∙ ap (λ (l : List ℕ). getD l i 0) is-right
 
-  pub standing-is : D .to < usable D .marks → (best : ℕ) (any : Bool) → best ≡ nearest (row A (D .condition .states) (D .to)) (D .condition .accept) (D .condition .states) (r + 1)
-      → any ≡ stands A (pairs D) r → standing best r any ≡ status D r
-  unfolding status Area.status
-  standing-is ht best any e f = ap₂ (λ (b : ℕ) (t : Bool). standing b r t) (e ∙ nearest-is ht) (f ∙ stands-is)
+  pub standing-is : (t : ℕ) → t ≡ D .to → D .to < D .network .marks
+      → standing (nearest (row A (D .condition .states) t) (D .condition .accept) (D .condition .states) (r + 1)) r (stands A (pairs D) r) ≡ status D r
+  unfolding status Area.status usable
+  standing-is t e h = rw e (ap₂ (λ (b : ℕ) (x : Bool). standing b r x) (nearest-is h) stands-is)

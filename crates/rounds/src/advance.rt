@@ -25,16 +25,15 @@ pub fn advance(
     requires { ⌜ Lent network condition ties (now from) (now to) (now kinds) (now table) (now sources) (now area) × (r < 65534) × IsRight network condition ask (now from) (now to) (now kinds) (now table) r (now area) ⌝ }
     ensures { λ _. ⌜ Advances network condition ask (now (from .entry)) (now (to .entry)) (now (kinds .entry)) (now (table .entry)) r (now (area .entry)) (now (area .exit)) ⌝ }
 {
-    let states = condition.states;
     let mut live = [0u32; 1024];
-    crate::alive::fill(&mut live, area, network.marks, states, r, r + 1);
+    crate::alive::fill(&mut live, area, network.marks, condition.states, r, r + 1);
     let mut first = 0;
     let mut v = 0;
     while v < network.marks {
         let m = Mark::tested(v, network.marks);
         let end = runs::end(to, ties, network.marks, m, first);
-        let at = crate::rows::place(m, states, network.marks);
-        let mut row = crate::rows::fetch(area, at, states);
+        let at = crate::rows::place(m, condition.states, network.marks);
+        let mut row = crate::rows::fetch(area, at, condition.states);
         crate::offers::into(
             &mut row,
             from,
@@ -44,12 +43,12 @@ pub fn advance(
             sources,
             &live,
             network,
-            states,
+            condition.states,
             ties,
             first,
             end,
         );
-        crate::rows::write(area, at, &row, states);
+        crate::rows::write(area, at, &row, condition.states);
         first = end;
         v += 1;
     }
