@@ -27,11 +27,11 @@ use Rattle.walk.proofs.Areas.{area-right}
 use Rattle.walk.proofs.Refusals.{ready}
 use Rattle.tables.specs.Runs.{Cut}
 use Rattle.tables.specs.Steps.{Tabled, Leads}
-use Rattle.rounds.specs.Rows.{Sized, Row, Put, Alive, between}
-use Rattle.rounds.specs.Offers.{Lowered, Between, OfTie, AllLiving}
+use Rattle.rows.specs.Rows.{Sized, Row, Put, Alive, between}
+use Rattle.rows.specs.Offers.{Lowered, Between, OfTie, AllLiving}
 use Rattle.rounds.specs.Judged.{Every, IsRight, Advances}
-use Rattle.rounds.proofs.RowLaws.{whole}
-use Rattle.rounds.proofs.AliveLaws.{alive-in, between-yes, between-low, between-high, between-in}
+use Rattle.rows.proofs.RowLaws.{whole}
+use Rattle.rows.proofs.AliveLaws.{alive-in, between-yes, between-low, between-high, between-in}
 use Rattle.rounds.proofs.Offered.{at, From, offered}
 
 module _ (n : network.Network) (c : condition.Condition) (a : Ask) (from to sets T A : List ℕ) (r : ℕ) where

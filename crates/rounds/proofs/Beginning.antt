@@ -10,8 +10,8 @@ use Rattle.walk.specs.Demands.{Accepted}
 use Rattle.walk.proofs.Words.{Right, word-zero}
 use Rattle.walk.proofs.Areas.{area-right}
 use Rattle.walk.proofs.Refusals.{ready}
-use Rattle.rounds.specs.Rows.{opening, RowsTo}
-use Rattle.rounds.proofs.RowLaws.{whole}
+use Rattle.rows.specs.Rows.{opening, RowsTo}
+use Rattle.rows.proofs.RowLaws.{whole}
 use Rattle.rounds.proofs.Offered.{at}
 
 pub begun : (D : Question) (A A′ : List ℕ) (s : ℕ) → Accepted D → s ≡ D .from → pairs D ≤ length A → RowsTo A A′ (D .condition .states) (D .network .marks) (opening s (D .condition .start))

@@ -27,10 +27,10 @@ use Rattle.walk.proofs.Areas.{area-right}
 use Rattle.walk.proofs.Refusals.{Ready, ready}
 use Rattle.tables.specs.Runs.{Cut}
 use Rattle.tables.specs.Steps.{Tabled, Leads}
-use Rattle.rounds.specs.Rows.{row, Sized, opening, Row, differ, Alive}
-use Rattle.rounds.specs.Offers.{Lowered, Between, OfTie}
+use Rattle.rows.specs.Rows.{row, Sized, opening, Row, differ, Alive}
+use Rattle.rows.specs.Offers.{Lowered, Between, OfTie}
 use Rattle.rounds.specs.Judged.{Every, Tells}
-use Rattle.rounds.proofs.RowLaws.{row-at, row-length}
+use Rattle.rows.proofs.RowLaws.{row-at, row-length}
 use Rattle.rounds.proofs.Offered.{at, From, offered}
 
 -- the local test of the definition, at mark v

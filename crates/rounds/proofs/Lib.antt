@@ -1,11 +1,8 @@
 pub mod Advancing
-pub mod AliveLaws
 pub mod Beginning
 pub mod Judging
 pub mod Lending
-pub mod Lowering
 pub mod Meeting
 pub mod Offered
-pub mod RowLaws
 pub mod Standing
 pub mod Unique

@@ -17,11 +17,11 @@ use Rattle.walk.proofs.Executable.{Sound, Arc, arc-in, leads-in, leads-of}
 use Rattle.tables.specs.Runs.{Cut}
 use Rattle.tables.specs.Steps.{Tabled, Leads}
 use Rattle.tables.proofs.SetLaws.{has-and}
-use Rattle.rounds.specs.Rows.{row, between, Alive}
-use Rattle.rounds.specs.Offers.{Lowered, Between, OfTie}
-use Rattle.rounds.proofs.RowLaws.{row-at}
-use Rattle.rounds.proofs.AliveLaws.{alive-in, between-yes}
-use Rattle.rounds.proofs.Lowering.{lowered-as}
+use Rattle.rows.specs.Rows.{row, between, Alive}
+use Rattle.rows.specs.Offers.{Lowered, Between, OfTie}
+use Rattle.rows.proofs.RowLaws.{row-at}
+use Rattle.rows.proofs.AliveLaws.{alive-in, between-yes}
+use Rattle.rows.proofs.Lowering.{lowered-as}
 
 -- the word of a pair
 abbrev pub at : Condition → List ℕ → ℕ → ℕ → ℕ

@@ -21,9 +21,9 @@ use Rattle.walk.specs.Question.{Question, usable, pairs, right, status}
 use Rattle.walk.proofs.Numbers.{Yes, and-in, and-of, or-in, eqb-of, anyBelow-in, anyBelow-of, Least, least-one, yes-same, tally-in, tally-of}
 use Rattle.walk.proofs.Areas.{length-area, area-right}
 use Rattle.tables.proofs.StepLaws.{any-more, any-same}
-use Rattle.rounds.specs.Rows.{row}
+use Rattle.rows.specs.Rows.{row}
 use Rattle.rounds.specs.Standing.{nearest, stands, standing}
-use Rattle.rounds.proofs.RowLaws.{row-at}
+use Rattle.rows.proofs.RowLaws.{row-at}
 
 -- the loop over the states: k is the least word, or b
 -- some state of the set below n has the word d

@@ -19,8 +19,8 @@ use Rattle.tables.specs.Runs.{Rising}
 use Rattle.tables.specs.Steps.{Tabled, Leads}
 use Rattle.rounds.specs.declared.Prepared.{Prepared}
 use Rattle.rounds.specs.Answers.{saidPrepared}
-use Rattle.rounds.specs.Rows.{Sized}
-use Rattle.rounds.specs.Offers.{TiesIn}
+use Rattle.rows.specs.Rows.{Sized}
+use Rattle.rows.specs.Offers.{TiesIn}
 
 -- what refusals 1 to 7 leave of the columns and the area, with the step table T and its sources S
 pub record Lent (n : network.Network) (c : condition.Condition) (ties : ℕ) (from to sets T S A : List ℕ) : Type 0 where

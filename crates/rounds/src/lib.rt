@@ -2,9 +2,6 @@
 // `advance::advance`.
 
 pub mod advance;
-pub mod alive;
-pub mod offers;
-pub mod rows;
 pub mod status;
 pub mod trial;
 
@@ -18,6 +15,7 @@ ghost use Rattle.rounds.specs.Answers.{saidPrepared};
 ghost use Rattle.rounds.specs.Judged.{Lent, Turns};
 use tables::numbers::Mark;
 use tables::steps;
+use tables::steps::Steps;
 use tables::tests;
 use tables::tests::Verdict;
 use walk::Ask;
@@ -69,7 +67,7 @@ impl Rounds {
         ) {
             Verdict::Refused(name, place) => Prepared::Refused(name, place),
             Verdict::Passed => {
-                crate::rows::open(
+                rows::open(
                     area,
                     network.marks,
                     condition,
@@ -121,8 +119,8 @@ impl Rounds {
         ) {
             Verdict::Refused(name, place) => Prepared::Refused(name, place),
             Verdict::Passed => {
-                let mut table = [0u32; 1024];
-                let mut sources = [0u32; 32];
+                let mut table = [0u32; Steps::WORDS];
+                let mut sources = [0u32; Network::KINDS];
                 steps::fill(
                     &mut table,
                     &mut sources,
@@ -172,8 +170,8 @@ fn turn(
     from: &[u16],
     to: &[u16],
     kinds: &[u32],
-    table: &[u32; 1024],
-    sources: &[u32; 32],
+    table: &[u32; Steps::WORDS],
+    sources: &[u32; Network::KINDS],
     area: &mut [u16],
 ) -> Prepared
     requires { ⌜ Lent network condition ties (now from) (now to) (now kinds) (now table) (now sources) (now area) × (ask .from < network .marks) × (ask .to < network .marks) ⌝ }

@@ -6,7 +6,7 @@ ghost use Prim.Native.Nat.{_+_, _*_, _≤_, _<_};
 ghost use lib.Dec.{ltb};
 ghost use lib.ListN.{length};
 ghost use Rattle.walk.specs.Numbers.{_and_};
-ghost use Rattle.rounds.specs.Rows.{row};
+ghost use Rattle.rows.specs.Rows.{row};
 ghost use Rattle.rounds.specs.Standing.{nearest, stands, standing};
 use tables::numbers::Mark;
 use tables::numbers::State;
@@ -65,7 +65,7 @@ pub fn status(area: &[u16], marks: usize, condition: Condition, t: Mark, r: u16)
     ensures { λ x. ⌜ x ≡ standing (nearest (row (now (area .entry)) (condition .states) (t .0)) (condition .accept) (condition .states) (r + 1)) r (stands (now (area .entry)) (marks * condition .states) r) ⌝ }
 {
     let states = condition.states;
-    let at = crate::rows::place(t, states, marks);
+    let at = rows::place(t, states, marks);
     let end = at + states;
     let best = nearest(&area[at..end], condition, r);
     if best <= r {

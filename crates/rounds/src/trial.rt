@@ -4,6 +4,7 @@ ghost use Prim.Native.Nat.{_<_};
 ghost use Rattle.rounds.specs.Judged.{Lent, Tells};
 use tables::numbers::Mark;
 use tables::runs;
+use tables::steps::Steps;
 use walk::Ask;
 use walk::Condition;
 use walk::Network;
@@ -18,8 +19,8 @@ pub fn right(
     from: &[u16],
     to: &[u16],
     kinds: &[u32],
-    table: &[u32; 1024],
-    sources: &[u32; 32],
+    table: &[u32; Steps::WORDS],
+    sources: &[u32; Network::KINDS],
     area: &[u16],
 ) -> bool
     requires { ⌜ Lent network condition ties (now from) (now to) (now kinds) (now table) (now sources) (now area) × (ask .from < network .marks) × (r < 65535) ⌝ }
@@ -27,15 +28,15 @@ pub fn right(
 {
     let states = condition.states;
     let s = Mark::tested(ask.from, network.marks);
-    let mut live = [0u32; 1024];
-    crate::alive::fill(&mut live, area, network.marks, states, 0, r);
+    let mut live = [0u32; Network::MARKS];
+    rows::alive::fill(&mut live, area, network.marks, states, 0, r);
     let mut first = 0;
     let mut v = 0;
     while v < network.marks {
         let m = Mark::tested(v, network.marks);
         let end = runs::end(to, ties, network.marks, m, first);
-        let mut row = crate::rows::opening(m, s, condition);
-        crate::offers::into(
+        let mut row = rows::opening(m, s, condition);
+        rows::offers::into(
             &mut row,
             from,
             kinds,
@@ -49,9 +50,9 @@ pub fn right(
             first,
             end,
         );
-        let at = crate::rows::place(m, states, network.marks);
+        let at = rows::place(m, states, network.marks);
         let last = at + states;
-        if crate::rows::differs(&area[at..last], &row) {
+        if rows::differs(&area[at..last], &row) {
             return false;
         }
         first = end;

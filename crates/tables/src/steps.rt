@@ -1,4 +1,4 @@
-// The step table: the set of states that follow state p under kind k stands at k×32 + p. A call brings the moves into it once; after that
+// The step table: the set of states that follow state p under kind k stands at k×32 + p, 32 being the ceiling of states. A call brings the moves into it once; after that
 // nothing looks at a move.
 
 ghost use mathlib.Core.Bool.{true};
@@ -13,23 +13,37 @@ ghost use Rattle.tables.specs.Steps.{Clear, InRange, Filled, steps};
 use crate::numbers::Kind;
 use crate::numbers::State;
 use walk::Condition;
+use walk::Network;
+
+// The table has a word for each kind and state.
+pub struct Steps {}
+
+impl Steps {
+    pub const WORDS: usize = Network::KINDS * Condition::STATES;
+}
 
 // One move more: from p under k to q. Beside the table, for each kind the states that have a move by it.
-fn put(table: &mut [u32; 1024], sources: &mut [u32; 32], p: State, k: Kind, q: State)
+fn put(
+    table: &mut [u32; Steps::WORDS],
+    sources: &mut [u32; Network::KINDS],
+    p: State,
+    k: Kind,
+    q: State,
+)
     requires { ⌜ (p .0 < 32) × (k .0 < 32) × (q .0 < 32) ⌝ }
     ensures table { λ _. ⌜ now (table .exit) ≡ set (now (table .entry)) (k .0 * 32 + p .0) (bitOr (getD (now (table .entry)) (k .0 * 32 + p .0) 0) (2 ^ q .0)) ⌝ }
     ensures sources { λ _. ⌜ now (sources .exit) ≡ set (now (sources .entry)) (k .0) (bitOr (getD (now (sources .entry)) (k .0) 0) (2 ^ p .0)) ⌝ }
 {
     let kind = k.index();
-    let at = kind * 32 + p.index();
+    let at = kind * Condition::STATES + p.index();
     table[at] = crate::sets::with(table[at], q.index());
     sources[kind] = crate::sets::with(sources[kind], p.index());
 }
 
 // The table of the moves.
 pub fn fill(
-    table: &mut [u32; 1024],
-    sources: &mut [u32; 32],
+    table: &mut [u32; Steps::WORDS],
+    sources: &mut [u32; Network::KINDS],
     condition: Condition,
     kinds: usize,
     moves: usize,
@@ -52,7 +66,7 @@ pub fn fill(
 }
 
 // The states that follow p along a tie with these kinds.
-pub fn nexts(table: &[u32; 1024], set: u32, kinds: usize, p: State) -> u32
+pub fn nexts(table: &[u32; Steps::WORDS], set: u32, kinds: usize, p: State) -> u32
     requires { ⌜ (p .0 < 32) × (kinds < 33) × ((k : ℕ) → has set k ≡ true → k < kinds) ⌝ }
     ensures { λ r. ⌜ ((q : ℕ) → has r q ≡ steps (now (table .entry)) set (p .0) q) ⌝ }
 {
@@ -63,7 +77,7 @@ pub fn nexts(table: &[u32; 1024], set: u32, kinds: usize, p: State) -> u32
         let z = crate::sets::lowest(rest);
         n += z;
         let k = Kind::tested(n, kinds);
-        all = all | table[k.index() * 32 + p.index()];
+        all = all | table[k.index() * Condition::STATES + p.index()];
         rest = crate::sets::above(rest, z);
         n += 1;
     }

@@ -10,7 +10,7 @@ use borrow.Author.Needs.{needs}
 use Rattle.walk.specs.declared.Ask.{Ask}
 use Rattle.tables.specs.Runs.{Cut}
 use Rattle.tables.proofs.RunLaws.{cut-none}
-use Rattle.rounds.specs.Rows.{Row, Put}
+use Rattle.rows.specs.Rows.{Row, Put}
 use Rattle.rounds.specs.Judged.{IsRight}
 use Rattle.rounds.proofs.Advancing.{Sofar, sofar-none, sofar-living, sofar-more, sofar-all}
 use Rattle.rounds.proofs.advance.advance.Statement.{statement}

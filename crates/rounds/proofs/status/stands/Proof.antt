@@ -8,7 +8,7 @@ use borrow.Author.Tests.{eq-eqb, ne-eqb}
 use Rattle.walk.proofs.Numbers.{anyBelow-of}
 use Rattle.walk.specs.Numbers.{anyBelow}
 use Rattle.rounds.specs.Standing.{stands}
-use Rattle.rounds.proofs.RowLaws.{any-none}
+use Rattle.rows.proofs.RowLaws.{any-none}
 use Rattle.rounds.proofs.status.stands.Statement.{statement}
 use Rattle.rounds.proofs.status.stands.Tie as tie
 

@@ -4,9 +4,9 @@ use mathlib.Core.Path.{_≡_, refl, _∙_, ap}
 use lib.ListN.{length, take, drop}
 use borrow.Author.Needs.{needs}
 use borrow.Author.Tests.{le-leb, lt-leb}
-use Rattle.rounds.specs.Rows.{row}
+use Rattle.rows.specs.Rows.{row}
 use Rattle.rounds.specs.Standing.{nearest, stands}
-use Rattle.rounds.proofs.RowLaws.{row-is, row-length}
+use Rattle.rows.proofs.RowLaws.{row-is, row-length}
 use Rattle.rounds.proofs.status.status.Statement.{statement}
 use Rattle.rounds.proofs.status.status.Tie as tie
 

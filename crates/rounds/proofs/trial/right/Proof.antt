@@ -10,10 +10,10 @@ use borrow.Author.Needs.{needs}
 use Rattle.walk.specs.declared.Ask.{Ask}
 use Rattle.tables.specs.Runs.{Cut}
 use Rattle.tables.proofs.RunLaws.{cut-none}
-use Rattle.rounds.specs.Rows.{row, opening, Row}
+use Rattle.rows.specs.Rows.{row, opening, Row}
 use Rattle.rounds.specs.Judged.{Tells}
-use Rattle.rounds.proofs.RowLaws.{row-is, row-length}
-use Rattle.rounds.proofs.AliveLaws.{alive-living}
+use Rattle.rows.proofs.RowLaws.{row-is, row-length}
+use Rattle.rows.proofs.AliveLaws.{alive-living}
 use Rattle.rounds.proofs.Judging.{Passed, passed-none, compared, passed-all}
 use Rattle.rounds.proofs.trial.right.Statement.{statement}
 use Rattle.rounds.proofs.trial.right.Tie as tie

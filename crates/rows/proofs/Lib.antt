@@ -1,0 +1,3 @@
+pub mod AliveLaws
+pub mod Lowering
+pub mod RowLaws
