@@ -20,6 +20,15 @@ STATUS = {1: "Found", 2: "None", 3: "Going"}
 Call = collections.namedtuple("Call", "q name done area")
 
 
+def some_network():
+    """Half of the networks reach some pair only by two ties or more."""
+    deep = random.random() < 0.5
+    while True:
+        q = some_question()
+        if not deep or any(1 < word < UNREACHED for word in words(q, q.marks * q.states)):
+            return q
+
+
 def spoilt_area(call):
     """One word changed."""
     area = list(call.area)
@@ -34,13 +43,13 @@ def spoilt_count(call, pairs):
 
 
 def spoilt_question(call):
-    """One to three faults, a list of moves past its ceiling and a short area among them."""
+    """A few faults, a list of moves past its ceiling and a short area among them."""
     q, area = call.q, call.area
-    for _ in range(random.choice((1, 1, 1, 2, 3))):
+    for _ in range(random.choice((0, 1, 1, 1, 2, 3))):
         q = faulty(q)
     if random.random() < 0.1:
         q = q._replace(moves=q.moves + [(0, 0, 0)] * random.choice((257, 300)))
-    if random.random() < 0.2:
+    if random.random() < 0.4:
         area = area[:random.randrange(len(area))]
     return call._replace(q=q, area=area)
 
@@ -62,6 +71,11 @@ def preparation(q):
         if answer[2][0] != "Going" and call.name == "round" and answer[1] == call.done:
             return
         call = Call(q, "round", answer[1], area)
+
+
+def lendable(q):
+    """Two faults together can ask for more room, or for wider sets, than can be lent."""
+    return max(map(len, (q.froms, q.tos, q.sets))) <= ROOM and max([q.start, q.accept] + q.sets) < 1 << 32
 
 
 def packed(call):
@@ -98,8 +112,8 @@ def heard(call, answer):
 def main():
     program, seed, networks = sys.argv[1], int(sys.argv[2]), int(sys.argv[3])
     random.seed(seed)
-    calls = [call for _ in range(networks) for call in preparation(some_question())]
-    calls = [call for call in calls if max(map(len, (call.q.froms, call.q.tos, call.q.sets))) <= ROOM]
+    calls = [call for _ in range(networks) for call in preparation(some_network())]
+    calls = [call for call in calls if lendable(call.q)]
     said = subprocess.run([program], input=b"".join(map(packed, calls)), stdout=subprocess.PIPE, check=True).stdout
     met = collections.Counter()
     for i, call in enumerate(calls):

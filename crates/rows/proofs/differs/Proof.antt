@@ -1,9 +1,9 @@
 -- The loop's invariant: no word passed differs.
-use Prim.Native.Nat.{_-_, _≤_}
+use Prim.Native.Nat.{ℕ, _-_, _≤_}
 use mathlib.Core.Bool.{false}
 use mathlib.Core.Path.{_≡_, refl, sym}
 use native.Mathlib.Omega.{arith}
-use lib.ListN.{length}
+use lib.ListN.{length, getD}
 use borrow.Author.Needs.{needs}
 use borrow.Author.Tests.{eq-eqb, ne-eqb}
 use Rattle.walk.proofs.Numbers.{anyBelow-of}
@@ -18,6 +18,13 @@ Inv-loop words row q₀ q = (q ≤ length words) × (differ words row q ≡ fals
 
 abbrev μ-loop : tie.MeasureT-loop
 μ-loop words row q₀ q = length words - q
+
+-- the two words that are compared
+abbrev word : tie.At-loop Inv-loop μ-loop → ℕ
+word L = getD (L .before .args .words .now) (L .loop .q) 0
+
+abbrev other : tie.At-loop Inv-loop μ-loop → ℕ
+other L = getD (L .before .args .row .now) (L .loop .q) 0
 
 loop-holds : tie.Need-loop-holds Inv-loop μ-loop
 unfolding anyBelow
@@ -38,7 +45,8 @@ element-copy-out-if1 c = search needs
 returns : tie.Need-returns Inv-loop μ-loop
 returns c =
     let L = c .before .before .before .before in
-    sym (anyBelow-of _ _ (L .loop .q) (omega arith) (rw (ne-eqb _ _ (c .if1 .taken))))
+    let t = c .if1 .taken in
+    sym (anyBelow-of _ _ (L .loop .q) (omega arith) (rw (ne-eqb _ _ (λ e. (let d : word L ≡ other L = e in omega arith)))))
 
 add-q : tie.Need-add-q Inv-loop μ-loop
 add-q c = search needs
@@ -49,7 +57,8 @@ loop-less c = search needs
 loop-again : tie.Need-loop-again Inv-loop μ-loop
 loop-again c =
     let L = c .before .before .before .before in
-    (omega arith, any-none _ _ (L .loop .inv .1) (rw (eq-eqb _ _ (c .if1 .left))))
+    let e : word L ≡ other L = omega arith in
+    (omega arith, any-none _ _ (L .loop .inv .1) (rw (eq-eqb _ _ e)))
 
 returns-2 : tie.Need-returns-2 Inv-loop μ-loop
 returns-2 c =

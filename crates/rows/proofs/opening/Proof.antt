@@ -25,7 +25,8 @@ index-requires-2 c κs = search needs
 returns : tie.Need-returns Inv-loop μ-loop
 returns c =
     let S = c .before .before .before in
-    row-blank _ (S .args .s .0) _ (S .args .v .0) (S .pre) (λ e. c .if1 .taken (c .before .before .index .ensures ∙ e ∙ sym (c .before .index2 .ensures)))
+    let t = c .if1 .taken in
+    row-blank _ (S .args .s .0) _ (S .args .v .0) (S .pre) (λ e. (let d : S .args .v .0 ≡ S .args .s .0 = e in omega arith))
 
 loop-holds : tie.Need-loop-holds Inv-loop μ-loop
 loop-holds c = search needs
@@ -63,7 +64,8 @@ returns-2 c =
     let B = L .before .before in
     let S = B .before .before in
     let e : L .loop .q ≡ S .args .condition .states = omega arith in
-    row-started _ _ (S .args .s .0) _ (S .args .v .0) (sym (B .before .index .ensures) ∙ L .before .if1 .left ∙ B .index2 .ensures) (rw e at (L .loop .inv .1))
+    let at-s : S .args .v .0 ≡ S .args .s .0 = omega arith in
+    row-started _ _ (S .args .s .0) _ (S .args .v .0) at-s (rw e at (L .loop .inv .1))
 
 pub opening-spec : {M : Type 1} → statement M
 opening-spec =

@@ -101,8 +101,7 @@ write-requires c κs =
     let l = p .before .before .before .before .before in
     let S = start l .pre .0 .size in
     let (_, e, _) = p .place .ensures in
-    let room : p .place .result + start l .args .condition .states ≤ length (l .loop .area) = omega (arith, S .room, l .loop .inv .2) in
-    (S .narrow, room)
+    (omega (arith, S .narrow), omega (arith, S .room, l .loop .inv .2))
 
 add-v : tie.Need-add-v Inv-loop μ-loop
 add-v c =

@@ -1,9 +1,11 @@
+use Prim.Native.Nat.{_<_}
+use native.Mathlib.Omega.{arith}
 use borrow.Author.Tests.{lt-ltb, le-ltb}
 use Rattle.tables.proofs.numbers.Tie.checked.Statement.{statement}
 use Rattle.tables.proofs.numbers.Tie.checked.Tie as tie
 
 returns : tie.Need-returns
-returns c = simp (lt-ltb _ _ (c .if1 .taken))
+returns c = let h : c .before .args .n < c .before .args .ties = omega arith in simp (lt-ltb _ _ h)
 
 returns-2 : tie.Need-returns-2
 returns-2 c = simp (le-ltb _ _ (c .if1 .left))
