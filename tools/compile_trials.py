@@ -1,8 +1,8 @@
 #!/usr/bin/env python3
 """compile_trials.py: inside the library no number of one sort is accepted for another.
 
-Compiles a small program over crate `tables`, which must be accepted, and the same program with one line changed, which
-must be refused for the reason stated.
+Each trial changes one call of a crate, which the prover has accepted as it stands, in a copy of the repository; the
+compiler must refuse it for the reason stated. To be run after `rt ci`, on what that proved.
 """
 import pathlib
 import shutil
@@ -10,59 +10,40 @@ import subprocess
 import sys
 import tempfile
 
-PROGRAM = """use tables::numbers::Kind;
-use tables::numbers::Mark;
-use tables::numbers::State;
-use tables::numbers::Tie;
-
-fn main() {
-    let to = [0u16; 1];
-    let table = [0u32; 1024];
-    let v = Mark::tested(0, 1);
-    let e = Tie::tested(0, 1);
-    let k = Kind::tested(0, 1);
-    let q = State::tested(0, 1);
-    tables::runs::end(&to, 1, 1, v, 0);
-    tables::steps::nexts(&table, 0, 1, q);
-    e.enters(&to, 1);
-}
-"""
-
+HERE = pathlib.Path(__file__).resolve().parent.parent
 TRIALS = [
-    ("a tie for a mark", "end(&to, 1, 1, v, 0)", "end(&to, 1, 1, e, 0)", "mismatched types"),
-    ("a plain number for a mark", "end(&to, 1, 1, v, 0)", "end(&to, 1, 1, 0, 0)", "mismatched types"),
-    ("a kind for a state", "nexts(&table, 0, 1, q)", "nexts(&table, 0, 1, k)", "mismatched types"),
-    ("a mark for a tie", "e.enters(&to, 1)", "v.enters(&to, 1)", "enters"),
-    ("a mark made without its entry", "Mark::tested(0, 1)", "Mark(7)", "private"),
+    ("a tie for a mark", "rows", "offers.rt", "place(u, states", "place(e, states", "expected `Mark`, found `Tie`"),
+    ("a mark for a tie", "tables", "runs.rt", "Tie::tested(e, ties).enters(", "v.enters(", "no method `enters`"),
+    ("a kind for a state", "tables", "steps.rt", "put(table, sources, p, k, q)", "put(table, sources, k, k, q)", "expected `State`, found `Kind`"),
+    ("a plain number for a state", "rows", "offers.rt", "lower(row, State::tested(n, states), w)", "lower(row, n, w)", "expected `State`, found `usize`"),
+    ("a mark made without its entry", "rounds", "trial.rt", "Mark::tested(v, network.marks)", "Mark(v)", "its constructor is private"),
 ]
 
 
-def compiled(program):
-    """What the compiler says of the program, or None if it accepts it."""
+def said_of(crate, file, old, new):
+    """What the compiler says of the crate with the change, or None if it accepts it."""
     with tempfile.TemporaryDirectory() as folder:
         root = pathlib.Path(folder)
-        here = pathlib.Path(__file__).resolve().parent.parent
-        for crate in ("walk", "tables"):
-            shutil.copytree(here / "crates" / crate / "src", root / "crates" / crate / "src")
-        (root / "crates/sorts/src").mkdir(parents=True)
-        (root / "crates/sorts/src/main.rt").write_text(program)
-        (root / "crates.txt").write_text("walk:\ntables: walk\nsorts: walk tables\n")
-        run = subprocess.run(["rt", "try", "sorts"], cwd=root, stdout=subprocess.PIPE, stderr=subprocess.STDOUT, text=True)
+        shutil.copytree(HERE / "crates", root / "crates")
+        shutil.copy(HERE / "crates.txt", root)
+        for kept in ("rlib", "stamp"):
+            shutil.copytree(HERE / "target" / kept, root / "target" / kept)
+        source = root / "crates" / crate / "src" / file
+        text = source.read_text()
+        assert text.count(old) == 1, f"{old} is not once in {source}"
+        source.write_text(text.replace(old, new))
+        run = subprocess.run(["rt", "check", crate], cwd=root, stdout=subprocess.PIPE, stderr=subprocess.STDOUT, text=True)
         return None if run.returncode == 0 else run.stdout
 
 
 def main():
-    said = compiled(PROGRAM)
-    if said:
-        sys.exit("compile trial: the program itself was refused: " + said)
-    for name, old, new, reason in TRIALS:
-        assert PROGRAM.count(old) == 1
-        said = compiled(PROGRAM.replace(old, new))
+    for name, crate, file, old, new, reason in TRIALS:
+        said = said_of(crate, file, old, new)
         if said is None:
             sys.exit(f"compile trial: {name} was accepted")
         if reason not in said:
             sys.exit(f"compile trial: {name} was refused for another reason: {said}")
-        print(f"compile trial: {name} is refused")
+        print(f"compile trial: {name} is refused: {reason}")
 
 
 main()

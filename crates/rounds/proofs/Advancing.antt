@@ -3,25 +3,24 @@
 use Prim.Native.Nat.{ℕ, suc, _+_, _-_, _*_, _≤_, _<_}
 use mathlib.Core.Path.{_≡_, refl, sym, _∙_, subst, ap}
 use mathlib.Core.Bool.{Bool, true, false, false≢true, cond}
-use mathlib.Core.List.{List, _++_}
+use mathlib.Core.List.{List}
 use mathlib.Core.Logic.{_⊎_, inl, inr, ⊎-elim}
 use native.Mathlib.Omega.{arith}
 use native.Mathlib.Nat.{not-suc-le-zero, mul-le-mul-right, le-refl, suc-mul}
 use native.Mathlib.Numerals.{add-one}
 use lib.Dec.{ltb, leb}
-use lib.ListN.{length, getD, take, drop}
+use lib.ListN.{length, getD}
 use borrow.Author.Tests.{ltb-true, ltb-false, leb-true, leb-false}
 use Rattle.walk.specs.declared.Network as network
 use Rattle.walk.specs.declared.Condition as condition
 use Rattle.walk.specs.declared.Ask.{Ask}
 use Rattle.walk.specs.declared.Move.{Move}
-use Rattle.walk.specs.Numbers.{has, _and_}
+use Rattle.walk.specs.Numbers.{_and_}
 use Rattle.walk.specs.Area.{word}
-use Rattle.walk.specs.Question.{Question, usable, pairs, right}
+use Rattle.walk.specs.Question.{Question, usable, right}
 use Rattle.walk.specs.Demands.{Accepted}
 use Rattle.walk.specs.Answers.{question}
-use Rattle.walk.proofs.Numbers.{Yes}
-use Rattle.walk.proofs.Executable.{Sound, Arc, arc-in}
+use Rattle.walk.proofs.Executable.{Sound, arc-in}
 use Rattle.walk.proofs.Words.{unreached, Right, comes, comes-in, comes-of, word-is, word-suc}
 use Rattle.walk.proofs.Areas.{area-right}
 use Rattle.walk.proofs.Refusals.{ready}
@@ -31,7 +30,7 @@ use Rattle.rows.specs.Rows.{Sized, Row, Put, Alive, between}
 use Rattle.rows.specs.Offers.{Lowered, Between, OfTie, AllLiving}
 use Rattle.rounds.specs.Judged.{Every, IsRight, Advances}
 use Rattle.rows.proofs.RowLaws.{whole}
-use Rattle.rows.proofs.AliveLaws.{alive-in, between-yes, between-low, between-high, between-in}
+use Rattle.rows.proofs.AliveLaws.{alive-in, between-yes, between-high, between-in}
 use Rattle.rounds.proofs.Offered.{at, From, offered}
 
 module _ (n : network.Network) (c : condition.Condition) (a : Ask) (from to sets T A : List ℕ) (r : ℕ) where

@@ -1,5 +1,5 @@
 -- What start writes: the rows that have 0 at the start pairs and are unreached elsewhere are those of the right area for 0 rounds.
-use Prim.Native.Nat.{ℕ, _*_, _≤_}
+use Prim.Native.Nat.{ℕ, _≤_}
 use mathlib.Core.Path.{_≡_, refl, sym, _∙_, subst}
 use mathlib.Core.List.{List, _++_}
 use native.Mathlib.Omega.{arith}

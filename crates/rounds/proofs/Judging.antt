@@ -9,22 +9,22 @@ use native.Mathlib.Omega.{arith}
 use native.Mathlib.Nat.{not-suc-le-zero, le-antisymm}
 use lib.Dec.{ltb, eqb}
 use lib.ListN.{length, getD, take}
-use borrow.Author.Tests.{eqb-true, eqb-false, ltb-true, ltb-false, eq-eqb, not-true}
+use borrow.Author.Tests.{eqb-true, eqb-false, ltb-true, ltb-false, not-true}
 use Rattle.walk.specs.declared.Network as network
 use Rattle.walk.specs.declared.Condition as condition
 use Rattle.walk.specs.declared.Ask.{Ask}
 use Rattle.walk.specs.declared.Move.{Move}
-use Rattle.walk.specs.Numbers.{has, _and_, anyBelow}
+use Rattle.walk.specs.Numbers.{has, _and_}
 use Rattle.walk.specs.Network.{Network}
 use Rattle.walk.specs.Condition.{Condition, starts}
 use Rattle.walk.specs.Question.{Question, usable, pairs, right}
 use Rattle.walk.specs.Demands.{Accepted}
-use Rattle.walk.specs.Answers.{networkOf, conditionOf, question}
+use Rattle.walk.specs.Answers.{question}
 use Rattle.walk.proofs.Numbers.{Yes, and-in, and-of, eqb-of, anyBelow-in, anyBelow-of}
 use Rattle.walk.proofs.Executable.{Sound, Arc, arc-in}
 use Rattle.walk.proofs.Words.{unreached, Local, local-law}
 use Rattle.walk.proofs.Areas.{area-right}
-use Rattle.walk.proofs.Refusals.{Ready, ready}
+use Rattle.walk.proofs.Refusals.{ready}
 use Rattle.tables.specs.Runs.{Cut}
 use Rattle.tables.specs.Steps.{Tabled, Leads}
 use Rattle.rows.specs.Rows.{row, Sized, opening, Row, differ, Alive}

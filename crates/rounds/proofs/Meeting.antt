@@ -1,23 +1,21 @@
 -- What start and a round answer and leave meets their definitions: where the tests refuse, the first row given answers; where they pass, a list of
 -- rows with the area's row behind it comes down to that row; and the area's row and the status decide what a round does.
-use Prim.Native.Nat.{ℕ, suc, _+_, _≤_, _<_}
+use Prim.Native.Nat.{ℕ, suc, _+_, _≤_}
 use mathlib.Core.Path.{_≡_, refl, sym, _∙_, ap}
-use mathlib.Core.Bool.{Bool, true, false, false≢true, cond}
+use mathlib.Core.Bool.{Bool, true, false, cond}
 use mathlib.Core.List.{List, [], _∷_, _++_, List·Memᴰ·head, List·Memᴰ·tail}
-use mathlib.Core.Logic.{_↔_, ⊎-elim}
 use mathlib.Mathlib.Data.Bool.Basic.{eq-true-of-not-eq-false}
 use native.Mathlib.Omega.{arith}
 use native.Mathlib.Numerals.{add-one}
-use lib.ListN.{length, take, drop}
+use lib.ListN.{take, drop}
 use lib.Seq.{take-at}
 use Rattle.walk.specs.declared.Refusal.{Refusal}
 use Rattle.walk.specs.declared.Refusal.the-variants.{WrongArea}
 use Rattle.walk.specs.declared.Status.{Status}
-use Rattle.walk.specs.declared.Status.the-variants.{Going}
 use Rattle.walk.specs.Question.{Question, usable, pairs, right, status}
 use Rattle.walk.specs.Refusals.{Row, number, isGoing, wrongArea, start-tests, round-tests}
 use Rattle.walk.specs.Calls.{Answer, refused, gives, Progress, Done, leave, judged, progress, prepared, start, round}
-use Rattle.walk.specs.Demands.{NoneGiven, Accepted}
+use Rattle.walk.specs.Demands.{NoneGiven}
 use Rattle.walk.specs.Answers.{Meets}
 use Rattle.walk.proofs.Areas.{length-area}
 use Rattle.walk.proofs.Refusals.{judged-none, area-tested}
@@ -26,7 +24,7 @@ use Rattle.tables.specs.Tests.{firstGiven}
 use Rattle.tables.proofs.Verdicts.{refused-answers, passed-none}
 use Rattle.rounds.specs.Judged.{turned}
 
-pub meets-as : {A B : Type 0} (d d′ : Done A B) (x : Answer A) (w : B) → d ≡ d′ → Meets d′ x w → Meets d x w
+meets-as : {A B : Type 0} (d d′ : Done A B) (x : Answer A) (w : B) → d ≡ d′ → Meets d′ x w → Meets d x w
 meets-as d d′ x w e M = rw e M
 
 -- rows put behind others

@@ -2,7 +2,6 @@
 -- offered, by its own tie, kind and state. So a row that the loops have lowered is lowered by the arcs into its mark.
 use Prim.Native.Nat.{ℕ, suc, _+_, _*_, _≤_, _<_}
 use mathlib.Core.Path.{_≡_, refl, sym, _∙_, subst, ap}
-use mathlib.Core.Bool.{Bool, true}
 use mathlib.Core.List.{List}
 use native.Mathlib.Omega.{arith}
 use native.Mathlib.Numerals.{add-one}
@@ -10,14 +9,14 @@ use lib.Bits.{bitAnd}
 use lib.ListN.{getD}
 use borrow.Author.Tests.{lt-ltb}
 use Rattle.walk.specs.Numbers.{has}
-use Rattle.walk.specs.Network.{Network, ties, fromOf, toOf, kindsOf}
+use Rattle.walk.specs.Network.{Network, ties, fromOf, toOf}
 use Rattle.walk.specs.Condition.{Condition, follows}
 use Rattle.walk.proofs.Numbers.{Yes, and-in, and-of}
 use Rattle.walk.proofs.Executable.{Sound, Arc, arc-in, leads-in, leads-of}
 use Rattle.tables.specs.Runs.{Cut}
 use Rattle.tables.specs.Steps.{Tabled, Leads}
 use Rattle.tables.proofs.SetLaws.{has-and}
-use Rattle.rows.specs.Rows.{row, between, Alive}
+use Rattle.rows.specs.Rows.{Alive}
 use Rattle.rows.specs.Offers.{Lowered, Between, OfTie}
 use Rattle.rows.proofs.RowLaws.{row-at}
 use Rattle.rows.proofs.AliveLaws.{alive-in, between-yes}

@@ -1,19 +1,18 @@
 -- The status. The loop over the states of t finds the least word of an accepting state, and the loop over the words whether one is r; over a right
 -- area these are the two questions that the definition of the status asks.
-use Prim.Native.Nat.{ℕ, suc, _+_, _*_, _≤_, _<_}
-use mathlib.Core.Path.{_≡_, refl, sym, _∙_, subst, ap, ap₂, fun-ext}
+use Prim.Native.Nat.{ℕ, suc, _+_, _≤_, _<_}
+use mathlib.Core.Path.{_≡_, refl, sym, _∙_, ap, ap₂, fun-ext}
 use mathlib.Core.Bool.{Bool, true, false, false≢true, _||_, cond}
 use mathlib.Core.List.{List}
 use mathlib.Core.Logic.{_⊎_, inl, inr, ⊎-elim}
 use mathlib.Mathlib.Data.Bool.Basic.{or-inl, or-inr}
 use native.Mathlib.Omega.{arith}
 use native.Mathlib.Numerals.{add-one}
-use lib.Dec.{leb, ltb, eqb}
+use lib.Dec.{ltb, eqb}
 use lib.ListN.{length, getD, take}
 use lib.Seq.{getD-take}
 use borrow.Author.Tests.{eqb-true, ltb-true, ltb-false, lt-ltb}
-use Rattle.walk.specs.declared.Status.{Status}
-use Rattle.walk.specs.Numbers.{has, _and_, anyBelow, least, tally}
+use Rattle.walk.specs.Numbers.{has, _and_, anyBelow, least}
 use Rattle.walk.specs.Condition.{accepts}
 use Rattle.walk.specs.Area.{area, word, pairsAt, smallest}
 use Rattle.walk.specs.Area as Area

@@ -90,9 +90,6 @@ alive-more L A W n v Q lo hi x size hv hn room e X F u p h = go (eqb u v) refl
         ∙ at-row (ltb p Q) refl)
     go false f = let ne : ¬ (u ≡ v) = eqb-false u v f in ap (λ (n : ℕ). has n p) (getD-set-other L v u x 0 (eqb-false u v f)) ∙ F u p (omega arith)
 
-pub alive-end : (L A : List ℕ) (m n Q lo hi : ℕ) → m ≡ n → Alive L A m Q lo hi → Alive L A n Q lo hi
-alive-end L A m n Q lo hi e F u p h = F u p (omega arith)
-
 -- what is alive is a state, and reached
 pub alive-in : (L A : List ℕ) (n Q lo hi u p : ℕ) → Alive L A n Q lo hi → u < n → Yes (has (getD L u 0) p) → (p < Q) × (lo ≤ getD A (u * Q + p) 0) × (getD A (u * Q + p) 0 < hi)
 alive-in L A n Q lo hi u p F h t =

@@ -1,6 +1,6 @@
 -- Lowering a row by offers: by none, by one, by those of two steps after each other, by those of a loop over the elements of a set or over
 -- numbers. A loop's invariant is that the row is the first one lowered by the offers of what was passed.
-use Prim.Native.Nat.{ℕ, suc, _+_, _/_, _^_, _≤_, _<_}
+use Prim.Native.Nat.{ℕ, _+_, _/_, _^_, _≤_, _<_}
 use mathlib.Core.Path.{_≡_, refl, sym, _∙_, subst, ap}
 use mathlib.Core.Bool.{Bool, true, false, false≢true}
 use mathlib.Core.List.{List}
@@ -16,11 +16,11 @@ use Rattle.walk.proofs.Numbers.{and-in}
 use Rattle.tables.proofs.SetLaws.{Walk, walk-end, has-and, has-none}
 use Rattle.rows.specs.Offers.{Lowered, One, Each, Between, Along}
 
-pub lowered-none : (P : ℕ → ℕ → Type 0) (b : List ℕ) → length b ≡ 32 → ((q w : ℕ) → P q w → ⊥) → Lowered P b b
+lowered-none : (P : ℕ → ℕ → Type 0) (b : List ℕ) → length b ≡ 32 → ((q w : ℕ) → P q w → ⊥) → Lowered P b b
 lowered-none P b e never = record { size = e; keeps = λ q h. le-refl _; takes = λ q w h p. absurd (never q w p); comes = λ q h. inl refl }
 
 -- first by P and then by P′: by both
-pub lowered-then : (P P′ R : ℕ → ℕ → Type 0) (b b′ b″ : List ℕ) → Lowered P b b′ → Lowered P′ b′ b″ → ((q w : ℕ) → R q w → P q w ⊎ P′ q w) → ((q w : ℕ) → P q w → R q w) → ((q w : ℕ) → P′ q w → R q w) → Lowered R b b″
+lowered-then : (P P′ R : ℕ → ℕ → Type 0) (b b′ b″ : List ℕ) → Lowered P b b′ → Lowered P′ b′ b″ → ((q w : ℕ) → R q w → P q w ⊎ P′ q w) → ((q w : ℕ) → P q w → R q w) → ((q w : ℕ) → P′ q w → R q w) → Lowered R b b″
 lowered-then P P′ R b b′ b″ L M split f g = record { size = M .size; keeps = λ q h. le-trans (M .keeps q h) (L .keeps q h); takes = tk; comes = cm }
   where
     tk : (q w : ℕ) → q < 32 → R q w → getD b″ q 0 ≤ w

@@ -1,10 +1,10 @@
 -- Rows of the area: where a row stands, a part of the area that is a row, and what the loops over a row and over the marks have written. Each row is
 -- written once and touches no other, so after the last mark every word below V×Q is as it should be and every other one as it was.
-use Prim.Native.Nat.{ℕ, zero, suc, _+_, _-_, _*_, _≤_, _<_, zero-le}
+use Prim.Native.Nat.{ℕ, _+_, _-_, _*_, _≤_, _<_}
 use mathlib.Core.Path.{_≡_, refl, sym, _∙_, subst, ap}
 use mathlib.Core.Bool.{Bool, true, false, cond}
 use mathlib.Core.List.{List, _++_}
-use mathlib.Core.Logic.{_⊎_, inl, inr, ⊎-elim}
+use mathlib.Core.Logic.{_⊎_, inl, inr}
 use native.Mathlib.Omega.{arith}
 use native.Mathlib.Nat.{not-suc-le-zero, mul-le-mul, mul-le-mul-right, suc-mul}
 use native.Mathlib.Numerals.{add-one}
@@ -12,7 +12,7 @@ use lib.Dec.{ltb, eqb}
 use lib.ListN.{length, getD, set, take, drop, length-set, length-drop, take-append-drop, replicate, getD-replicate, length-replicate}
 use lib.Seq.{ext-getD, getD-take, getD-drop, getD-set-same, getD-set-other, length-take-le}
 use borrow.Author.Tests.{eqb-true, eqb-false, ltb-true, ltb-false, eq-eqb, ne-eqb}
-use Rattle.walk.specs.Numbers.{has, _and_, anyBelow}
+use Rattle.walk.specs.Numbers.{has, anyBelow}
 use Rattle.tables.proofs.StepLaws.{no-and, yes-and, any-more}
 use Rattle.rows.specs.Rows.{row, opening, Row, Put, RowsTo}
 
@@ -30,9 +30,6 @@ pub row-length : (A : List ℕ) (Q v n : ℕ) → v < n → n * Q ≤ length A �
 row-length A Q v n h room = length-take-le Q (drop (v * Q) A) (omega (arith, mul-le-mul-right Q h, length-drop (v * Q) A))
 
 -- a row that is filled state by state
-pub row-none : (b : List ℕ) (f : ℕ → ℕ) → length b ≡ 32 → Row b 0 f
-row-none b f e = record { size = e; says = λ q h. absurd (not-suc-le-zero h) }
-
 pub row-more : (b : List ℕ) (q w : ℕ) (f : ℕ → ℕ) → q < 32 → w ≡ f q → Row b q f → Row (set b q w) (q + 1) f
 row-more b q w f h e R = record { size = length-set b q w ∙ R .size; says = λ i l. go i l (eqb i q) refl }
   where
@@ -56,9 +53,6 @@ row-started b Q s start v e R = record {
 }
 
 -- a row that is written word by word
-pub put-none : (A b : List ℕ) (at : ℕ) → Put A A b at 0
-put-none A b at = record { size = refl; inside = λ q h. absurd (not-suc-le-zero h); outside = λ i h. refl }
-
 pub put-more : (A A′ A″ b : List ℕ) (at q : ℕ) → at + q < length A → A″ ≡ set A′ (at + q) (getD b q 0) → Put A A′ b at q → Put A A″ b at (q + 1)
 put-more A A′ A″ b at q room e P = rw e (record { size = length-set A′ (at + q) _ ∙ P .size; inside = ins; outside = out })
   where
@@ -76,9 +70,6 @@ put-more A A′ A″ b at q room e P = rw e (record { size = length-set A′ (at
     out i (inr h) = getD-set-other A′ (at + q) i _ 0 (λ z. (let y : i ≡ at + q = z in omega arith)) ∙ P .outside i (inr (omega arith))
 
 -- rows that are written mark by mark
-pub rows-none : (A : List ℕ) (Q : ℕ) (f : ℕ → ℕ → ℕ) → RowsTo A A Q 0 f
-rows-none A Q f = record { size = refl; before = λ u q h. absurd (not-suc-le-zero h); after = λ i h. refl }
-
 pub rows-more : (A A′ A″ b : List ℕ) (Q v at : ℕ) (f : ℕ → ℕ → ℕ) → at ≡ v * Q → RowsTo A A′ Q v f → Put A′ A″ b at Q → ((q : ℕ) → q < Q → getD b q 0 ≡ f v q)
     → RowsTo A A″ Q (v + 1) f
 rows-more A A′ A″ b Q v at f e R P says = record { size = P .size ∙ R .size; before = bf; after = af }

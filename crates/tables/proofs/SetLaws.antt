@@ -66,7 +66,7 @@ has-and a b j = ap (λ (n : ℕ). eqb n 1) (and-digit a b j) ∙ digit-and _ _ (
 pub one-shl : (q : ℕ) → q < 32 → 1 * 2 ^ q % 4294967296 ≡ 2 ^ q
 one-shl q lt = shl-exact 1 q 32 (lit< tt) (omega (arith, lt)) ∙ one-mul (2 ^ q)
 
-pub one-has : (q : ℕ) → has (2 ^ q) q ≡ true
+one-has : (q : ℕ) → has (2 ^ q) q ≡ true
 unfolding has
 one-has q = ap (λ (n : ℕ). eqb (n % 2) 1) (div-self (pow-pos q))
 
@@ -93,10 +93,10 @@ one-is q j = go (eqb q j) refl
 pub has-none : (j : ℕ) → has 0 j ≡ false
 has-none j = eq-false-of-not-eq-true (zero-has j)
 
-pub has-high : (n i : ℕ) → n < 2 ^ 32 → 32 ≤ i → has n i ≡ false
+has-high : (n i : ℕ) → n < 2 ^ 32 → 32 ≤ i → has n i ≡ false
 has-high n i small h = eq-false-of-not-eq-true (λ t. let l = has-below 32 n i small t in omega arith)
 
-pub has-shr : (n k i : ℕ) → has (n / 2 ^ k) i ≡ has n (k + i)
+has-shr : (n k i : ℕ) → has (n / 2 ^ k) i ≡ has n (k + i)
 unfolding has
 has-shr n k i = ap (λ (m : ℕ). eqb (m % 2) 1) (shr-shr n k i)
 

@@ -1,8 +1,7 @@
 // "the ties into one mark are one unbroken run of the table"
 
 ghost use Prim.Native.Nat.{ℕ, suc, _<_, _≤_, _+_};
-ghost use mathlib.Core.Path.{_≡_};
-ghost use lib.ListN.{length, getD};
+ghost use lib.ListN.{getD};
 ghost use Rattle.tables.specs.Runs.{Rising, Cut};
 use crate::numbers::Mark;
 use crate::numbers::Tie;

@@ -4,7 +4,7 @@
 ghost use mathlib.Core.Bool.{true};
 ghost use mathlib.Core.Path.{_≡_};
 ghost use Prim.Native.Nat.{ℕ, _+_, _*_, _<_, _^_};
-ghost use lib.ListN.{length, getD, set};
+ghost use lib.ListN.{getD, set};
 ghost use lib.Bits.{bitOr};
 ghost use Rattle.walk.specs.Numbers.{has};
 ghost use Rattle.walk.specs.Answers.{conditionOf};

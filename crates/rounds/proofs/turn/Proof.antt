@@ -1,18 +1,14 @@
 -- `rounds::turn` meets its contract: a count above V×Q or an area that the test refuses gives refusal 8; a finished area stays; any other is advanced.
-use Prim.Native.Nat.{ℕ, suc, _+_, _*_, _≤_, _<_}
-use mathlib.Core.Path.{_≡_, refl, sym, _∙_, subst, ap}
+use Prim.Native.Nat.{suc, _+_, _*_, _≤_}
+use mathlib.Core.Path.{_≡_, sym, _∙_}
 use mathlib.Core.Bool.{true, false, false≢true}
-use mathlib.Core.List.{List}
 use native.Mathlib.Numerals.{add-one}
 use native.Mathlib.Omega.{arith}
 use lib.ListN.{take}
 use borrow.Author.Needs.{needs}
 use borrow.Author.Tests.{not-true, not-false}
-use Rattle.walk.specs.declared.Move.{Move}
 use Rattle.walk.specs.Question.{pairs, right, status}
-use Rattle.walk.specs.Demands.{Accepted}
 use Rattle.walk.specs.Answers.{question}
-use Rattle.tables.specs.Steps.{Tabled}
 use Rattle.rounds.specs.Judged.{IsRight, Every}
 use Rattle.rounds.proofs.Standing.{standing-is}
 use Rattle.rounds.proofs.Meeting.{turned-refused, turned-stays, turned-goes, in-front}

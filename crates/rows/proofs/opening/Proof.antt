@@ -1,7 +1,7 @@
 -- The loop's invariant: the first q words are 0 at the start states and 65535 elsewhere.
 use Prim.Native.Nat.{_-_, _≤_}
 use mathlib.Core.Bool.{cond}
-use mathlib.Core.Path.{_≡_, sym, _∙_}
+use mathlib.Core.Path.{_≡_}
 use native.Mathlib.Omega.{arith}
 use borrow.Author.Needs.{needs}
 use Rattle.walk.specs.Numbers.{has}

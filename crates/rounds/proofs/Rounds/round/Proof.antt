@@ -1,6 +1,5 @@
 -- `Rounds::round` meets its promise: where the tests refuse, their row answers; where they pass, the moves are brought into the step table and `turn`
 -- does the rest on the columns cut to the ties.
-use Prim.Native.Nat.{ℕ}
 use mathlib.Core.Path.{_≡_, refl, sym, _∙_}
 use native.Mathlib.Omega.{arith}
 use lib.ListN.{length}

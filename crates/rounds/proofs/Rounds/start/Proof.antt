@@ -1,10 +1,9 @@
 -- `Rounds::start` meets its promise: where the tests refuse, their row answers; where they pass, the rows of the right area for 0 rounds are written
 -- and their status is reported.
-use Prim.Native.Nat.{ℕ}
-use mathlib.Core.Path.{_≡_, refl, sym, _∙_}
+use mathlib.Core.Path.{_≡_, sym, _∙_}
 use native.Mathlib.Omega.{arith}
 use borrow.Author.Needs.{needs}
-use Rattle.walk.specs.Question.{Question, pairs}
+use Rattle.walk.specs.Question.{Question}
 use Rattle.walk.specs.Refusals.{start-tests}
 use Rattle.walk.specs.Answers.{question}
 use Rattle.tables.specs.declared.tests.Verdict.the-variants.{Passed}

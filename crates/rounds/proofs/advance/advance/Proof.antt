@@ -1,8 +1,7 @@
 -- `rounds::advance::advance` meets its contract. The invariant: the cursor stands where the ties into mark v begin, and the rows before v are those of
 -- the right area for r + 1, whatever question asks and whatever moves the table stands for.
 use Prim.Native.Nat.{ℕ, suc, _+_, _-_, _*_, _≤_, _<_, zero-le}
-use mathlib.Core.Path.{_≡_, refl, sym, _∙_, subst, ap}
-use mathlib.Core.List.{List}
+use mathlib.Core.Path.{_≡_, refl, _∙_, subst, ap}
 use native.Mathlib.Numerals.{add-one}
 use native.Mathlib.Omega.{arith}
 use lib.ListN.{length, getD, length-replicate}

@@ -1,11 +1,11 @@
 -- `rounds::trial::right` meets its contract. The invariant: the cursor stands where the ties into mark v begin, and the marks before v pass the local
 -- test, whatever moves the table stands for.
-use Prim.Native.Nat.{ℕ, suc, _+_, _-_, _*_, _≤_, _<_, zero-le}
+use Prim.Native.Nat.{ℕ, suc, _+_, _-_, _*_, _≤_, zero-le}
 use mathlib.Core.Path.{_≡_, refl, sym, _∙_, subst, ap}
 use mathlib.Core.Bool.{true, false}
 use native.Mathlib.Numerals.{add-one}
 use native.Mathlib.Omega.{arith}
-use lib.ListN.{length, take, drop, length-replicate}
+use lib.ListN.{take, drop, length-replicate}
 use borrow.Author.Needs.{needs}
 use Rattle.walk.specs.declared.Ask.{Ask}
 use Rattle.tables.specs.Runs.{Cut}

@@ -1,7 +1,7 @@
 -- `tables::tests::bad_ends` meets its contract: s is not below V, or it is and t decides.
 use native.Mathlib.Omega.{arith}
 use borrow.Author.Tests.{leb-false, lt-leb}
-use Rattle.tables.proofs.Rows.{is-given, pass-together, ends-law}
+use Rattle.tables.proofs.TestLaws.{is-given, pass-together, ends-law}
 use Rattle.tables.proofs.tests.bad_ends.Statement.{statement}
 use Rattle.tables.proofs.tests.bad_ends.Tie as tie
 

@@ -11,7 +11,7 @@ use borrow.Author.Tests.{leb-false, lt-leb}
 use Rattle.walk.specs.Answers.{conditionOf}
 use Rattle.walk.specs.Refusals.{badMoveAt}
 use Rattle.tables.specs.Lent.{movesOf}
-use Rattle.tables.proofs.Rows.{is-given, pass-together, move-law}
+use Rattle.tables.proofs.TestLaws.{is-given, pass-together, move-law}
 use Rattle.tables.proofs.tests.bad_move.Statement.{statement}
 use Rattle.tables.proofs.tests.bad_move.Tie as tie
 

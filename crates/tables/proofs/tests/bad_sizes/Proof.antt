@@ -4,7 +4,7 @@ use mathlib.Core.Path.{ap}
 use mathlib.Core.Bool.{not}
 use native.Mathlib.Omega.{arith}
 use borrow.Author.Tests.{eqb-true, eq-eqb, not-false}
-use Rattle.tables.proofs.Rows.{is-given, pass-together, sizes-law}
+use Rattle.tables.proofs.TestLaws.{is-given, pass-together, sizes-law}
 use Rattle.tables.proofs.tests.bad_sizes.Statement.{statement}
 use Rattle.tables.proofs.tests.bad_sizes.Tie as tie
 

@@ -5,7 +5,7 @@ use mathlib.Core.Bool.{not, false≢true}
 use native.Mathlib.Omega.{arith}
 use borrow.Author.Tests.{not-true, not-false}
 use borrow.Author.Needs.{needs}
-use Rattle.tables.proofs.Rows.{is-given, pass-together, states-law}
+use Rattle.tables.proofs.TestLaws.{is-given, pass-together, states-law}
 use Rattle.tables.proofs.tests.bad_states.Statement.{statement}
 use Rattle.tables.proofs.tests.bad_states.Tie as tie
 

@@ -5,7 +5,7 @@ use mathlib.Core.Bool.{not}
 use native.Mathlib.Omega.{arith}
 use borrow.Author.Tests.{not-false}
 use borrow.Author.Needs.{needs}
-use Rattle.tables.proofs.Rows.{is-given, pass-together, tie-law}
+use Rattle.tables.proofs.TestLaws.{is-given, pass-together, tie-law}
 use Rattle.tables.proofs.tests.bad_tie.Statement.{statement}
 use Rattle.tables.proofs.tests.bad_tie.Tie as tie
 

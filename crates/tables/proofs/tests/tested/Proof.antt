@@ -13,7 +13,7 @@ use Rattle.walk.proofs.Numbers.{length-table}
 use Rattle.walk.proofs.Refusals.{row-1}
 use Rattle.tables.specs.Lent.{movesOf}
 use Rattle.tables.specs.Tests.{firstGiven}
-use Rattle.tables.proofs.Rows.{states-law}
+use Rattle.tables.proofs.TestLaws.{states-law}
 use Rattle.tables.proofs.Verdicts.{row-answers, row-passes, last-passes, first-answers, none-answers, rows-1, rows-2, rows-3, rows-4, rows-5, rows-6, rows-7, start-rows}
 use Rattle.tables.proofs.tests.tested.Statement.{statement}
 use Rattle.tables.proofs.tests.tested.Tie as tie
