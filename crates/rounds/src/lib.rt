@@ -75,7 +75,7 @@ impl Rounds {
                 );
                 Prepared::After(
                     Rounds { done: 0 },
-                    crate::status::status(
+                    status::status(
                         area,
                         network.marks,
                         condition,
@@ -181,7 +181,7 @@ fn turn(
         return Prepared::Refused(Refusal::WrongArea, 0);
     }
     let r = done as u16;
-    if !crate::trial::right(
+    if !trial::right(
         network,
         condition,
         ask,
@@ -197,11 +197,11 @@ fn turn(
         return Prepared::Refused(Refusal::WrongArea, 0);
     }
     let t = Mark::tested(ask.to, network.marks);
-    let found = crate::status::status(area, network.marks, condition, t, r);
+    let found = status::status(area, network.marks, condition, t, r);
     if !going(found) {
         return Prepared::After(Rounds { done: done }, found);
     }
-    crate::advance::advance(
+    advance::advance(
         network,
         condition,
         ask,
@@ -216,6 +216,6 @@ fn turn(
     );
     Prepared::After(
         Rounds { done: done + 1 },
-        crate::status::status(area, network.marks, condition, t, r + 1),
+        status::status(area, network.marks, condition, t, r + 1),
     )
 }

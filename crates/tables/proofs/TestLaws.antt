@@ -10,6 +10,7 @@ use lib.Dec.{ltb}
 use lib.ListN.{length, getD}
 use borrow.Author.Tests.{ltb-true, lt-ltb, leb-true, le-leb, not-false}
 use Rattle.walk.specs.declared.Condition as lent
+use Rattle.walk.specs.Ceilings.{ceilings}
 use Rattle.walk.specs.Numbers.{_and_, onlyBelow}
 use Rattle.walk.specs.Network.{Network, fromOf, toOf, kindsOf}
 use Rattle.walk.specs.Condition.{moveAt}
@@ -49,7 +50,7 @@ tie-law N e = (
 
 module _ (c : lent.Condition) (n : ℕ) (f k t : List ℕ) where
   pub states-law : (badStates (conditionOf c (movesOf n f k t)) ≡ false)
-      ↔ ((1 ≤ c .states) × (c .states ≤ 32) × (n ≤ 256) × (onlyBelow (c .states) (c .start) ≡ true) × (onlyBelow (c .states) (c .accept) ≡ true))
+      ↔ ((1 ≤ c .states) × (c .states ≤ ceilings .states) × (n ≤ ceilings .moves) × (onlyBelow (c .states) (c .start) ≡ true) × (onlyBelow (c .states) (c .accept) ≡ true))
   unfolding badStates
   states-law =
       let l : length (movesOf n f k t) ≡ n = length-table n _ in (
@@ -57,8 +58,8 @@ module _ (c : lent.Condition) (n : ℕ) (f k t : List ℕ) where
             let (a, b) = and-in _ _ x in
             let (m, z) = and-in _ _ y in
             let (s, u) = and-in _ _ z in
-            (leb-true _ _ a, leb-true _ _ b, leb-true n 256 (rw l at m), s, u),
-        λ (a, b, m, s, u). ap not (and-of (and-of (le-leb _ _ a) (le-leb _ _ b)) (and-of (rw l (le-leb n 256 m)) (and-of s u))),
+            (leb-true _ _ a, leb-true _ _ b, leb-true n (ceilings .moves) (rw l at m), s, u),
+        λ (a, b, m, s, u). ap not (and-of (and-of (le-leb _ _ a) (le-leb _ _ b)) (and-of (rw l (le-leb n (ceilings .moves) m)) (and-of s u))),
       )
 
   pub move-law : (K j : ℕ) → j < n → (badMoveAt K (conditionOf c (movesOf n f k t)) j ≡ false)

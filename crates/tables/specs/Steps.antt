@@ -4,6 +4,7 @@ use mathlib.Core.Bool.{Bool, true}
 use mathlib.Core.List.{List}
 use mathlib.Core.Path.{_≡_}
 use lib.ListN.{length, getD}
+use Rattle.walk.specs.Ceilings.{ceilings}
 use Rattle.walk.specs.Numbers.{has, _and_, anyBelow}
 use Rattle.walk.specs.Condition.{Condition, moveAt, follows}
 
@@ -16,7 +17,7 @@ pub record Clear (T : List ℕ) (n : ℕ) : Type 0 where
 pub record InRange (K : ℕ) (C : Condition) : Type 0 where
   pub kinds : K ≤ 32
   pub states : C .states ≤ 32
-  pub few : length (C .moves) ≤ 256
+  pub few : length (C .moves) ≤ ceilings .moves
   pub from-in : (j : ℕ) → j < length (C .moves) → moveAt C j .from < C .states
   pub kind-in : (j : ℕ) → j < length (C .moves) → moveAt C j .kind < K
   pub to-in : (j : ℕ) → j < length (C .moves) → moveAt C j .to < C .states

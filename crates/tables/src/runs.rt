@@ -1,6 +1,6 @@
 // "the ties into one mark are one unbroken run of the table"
 
-ghost use Prim.Native.Nat.{ℕ, suc, _<_, _≤_, _+_};
+ghost use Prim.Native.Nat.{ℕ, suc, _<_, _≤_};
 ghost use lib.ListN.{getD};
 ghost use Rattle.tables.specs.Runs.{Rising, Cut};
 use crate::numbers::Mark;

@@ -1,9 +1,9 @@
-// The step table: the set of states that follow state p under kind k stands at k×32 + p, 32 being the ceiling of states. A call brings the moves into it once; after that
-// nothing looks at a move.
+// The step table: the set of states that follow state p under kind k stands at k×32 + p, 32 being the ceiling of states. A call brings the moves
+// into it once; after that nothing looks at a move.
 
 ghost use mathlib.Core.Bool.{true};
 ghost use mathlib.Core.Path.{_≡_};
-ghost use Prim.Native.Nat.{ℕ, _+_, _*_, _<_, _^_};
+ghost use Prim.Native.Nat.{ℕ, _+_, _*_, _<_, _≤_, _^_};
 ghost use lib.ListN.{getD, set};
 ghost use lib.Bits.{bitOr};
 ghost use Rattle.walk.specs.Numbers.{has};
@@ -67,7 +67,7 @@ pub fn fill(
 
 // The states that follow p along a tie with these kinds.
 pub fn nexts(table: &[u32; Steps::WORDS], set: u32, kinds: usize, p: State) -> u32
-    requires { ⌜ (p .0 < 32) × (kinds < 33) × ((k : ℕ) → has set k ≡ true → k < kinds) ⌝ }
+    requires { ⌜ (p .0 < 32) × (kinds ≤ 32) × ((k : ℕ) → has set k ≡ true → k < kinds) ⌝ }
     ensures { λ r. ⌜ ((q : ℕ) → has r q ≡ steps (now (table .entry)) set (p .0) q) ⌝ }
 {
     let mut all = 0u32;

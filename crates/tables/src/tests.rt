@@ -6,6 +6,7 @@ ghost use mathlib.Core.List.{List};
 ghost use Prim.Native.Nat.{ℕ, _*_, _≤_, _<_};
 ghost use lib.Dec.{ltb};
 ghost use lib.ListN.{length};
+ghost use Rattle.walk.specs.Ceilings.{ceilings};
 ghost use Rattle.walk.specs.Numbers.{least, _and_};
 ghost use Rattle.walk.specs.Answers.{networkOf, conditionOf, question};
 ghost use Rattle.walk.specs.Refusals.{badSizes, badTieAt, lateAt, badStates, badMoveAt, start-tests};
@@ -50,7 +51,7 @@ fn bad_sizes(network: Network, from: &[u16], to: &[u16], kinds: &[u32]) -> bool
 
 // Tie e "names a mark not below V or a kind not below K".
 fn bad_tie(network: Network, from: &[u16], to: &[u16], kinds: &[u32], e: usize) -> bool
-    requires { ⌜ (network .kinds ≤ 32) × (e < length (now from)) × (e < length (now to)) × (e < length (now kinds)) ⌝ }
+    requires { ⌜ (network .kinds ≤ ceilings .kinds) × (e < length (now from)) × (e < length (now to)) × (e < length (now kinds)) ⌝ }
     ensures { λ r. ⌜ r ≡ badTieAt (networkOf network (now (from .entry)) (now (to .entry)) (now (kinds .entry))) e ⌝ }
 {
     if wide(from, e) >= network.marks {
@@ -64,7 +65,7 @@ fn bad_tie(network: Network, from: &[u16], to: &[u16], kinds: &[u32], e: usize) 
 
 // The first such tie, or the number of ties.
 fn first_bad_tie(network: Network, ties: usize, from: &[u16], to: &[u16], kinds: &[u32]) -> usize
-    requires { ⌜ (network .kinds ≤ 32) × (length (now from) ≡ ties) × (length (now to) ≡ ties) × (length (now kinds) ≡ ties) ⌝ }
+    requires { ⌜ (network .kinds ≤ ceilings .kinds) × (length (now from) ≡ ties) × (length (now to) ≡ ties) × (length (now kinds) ≡ ties) ⌝ }
     ensures { λ r. ⌜ r ≡ least (badTieAt (networkOf network (now (from .entry)) (now (to .entry)) (now (kinds .entry)))) ties ⌝ }
 {
     let mut e = 0;
@@ -133,7 +134,7 @@ fn bad_move(
     moveto: &[u16; Condition::MOVES],
     j: usize,
 ) -> bool
-    requires { ⌜ (j < moves) × (j < 256) ⌝ }
+    requires { ⌜ (j < moves) × (j < ceilings .moves) ⌝ }
     ensures { λ r. ⌜ r ≡ badMoveAt kinds (conditionOf condition (movesOf moves (now (movefrom .entry)) (now (movekind .entry)) (now (moveto .entry)))) j ⌝ }
 {
     if wide(movefrom, j) >= condition.states {
@@ -154,7 +155,7 @@ fn first_bad_move(
     movekind: &[u16; Condition::MOVES],
     moveto: &[u16; Condition::MOVES],
 ) -> usize
-    requires { ⌜ moves ≤ 256 ⌝ }
+    requires { ⌜ moves ≤ ceilings .moves ⌝ }
     ensures { λ r. ⌜ r ≡ least (badMoveAt kinds (conditionOf condition (movesOf moves (now (movefrom .entry)) (now (movekind .entry)) (now (moveto .entry))))) moves ⌝ }
 {
     let mut j = 0;
@@ -179,8 +180,8 @@ fn bad_ends(network: Network, ask: Ask) -> bool
 
 // V×Q, the number of pairs of a mark and a state.
 pub fn pairs(marks: usize, states: usize) -> usize
-    requires { ⌜ (marks ≤ 1024) × (states ≤ 32) ⌝ }
-    ensures { λ r. ⌜ (r ≡ marks * states) × (r ≤ 32768) ⌝ }
+    requires { ⌜ (marks ≤ ceilings .marks) × (states ≤ ceilings .states) ⌝ }
+    ensures { λ r. ⌜ (r ≡ marks * states) × (r ≤ ceilings .words) ⌝ }
 {
     marks * states
 }
