@@ -1,6 +1,7 @@
 // One round over a right area: what the pairs with the word r lead to, and no chain has reached, becomes r + 1.
 
-ghost use Prim.Native.Nat.{_<_};
+ghost use Prim.Native.Nat.{_+_, _<_};
+ghost use Rattle.walk.specs.Ceilings.{ceilings};
 ghost use Rattle.rounds.specs.Judged.{Lent, IsRight, Advances};
 use tables::numbers::Mark;
 use tables::runs;
@@ -23,7 +24,7 @@ pub fn advance(
     sources: &[u32; Network::KINDS],
     area: &mut [u16],
 )
-    requires { ⌜ Lent network condition ties (now from) (now to) (now kinds) (now table) (now sources) (now area) × (r < 65534) × IsRight network condition ask (now from) (now to) (now kinds) (now table) r (now area) ⌝ }
+    requires { ⌜ Lent network condition ties (now from) (now to) (now kinds) (now table) (now sources) (now area) × (r + 1 < ceilings .unreached) × IsRight network condition ask (now from) (now to) (now kinds) (now table) r (now area) ⌝ }
     ensures { λ _. ⌜ Advances network condition ask (now (from .entry)) (now (to .entry)) (now (kinds .entry)) (now (table .entry)) r (now (area .entry)) (now (area .exit)) ⌝ }
 {
     let mut live = [0u32; Network::MARKS];

@@ -5,6 +5,7 @@ ghost use mathlib.Core.Path.{_≡_};
 ghost use Prim.Native.Nat.{_+_, _*_, _≤_, _<_};
 ghost use lib.Dec.{ltb};
 ghost use lib.ListN.{length};
+ghost use Rattle.walk.specs.Ceilings.{ceilings};
 ghost use Rattle.walk.specs.Numbers.{_and_};
 ghost use Rattle.rows.specs.Rows.{row};
 ghost use Rattle.rounds.specs.Standing.{nearest, stands, standing};
@@ -28,7 +29,7 @@ fn lesser(best: u16, w: u16, counts: bool) -> u16
 
 // The least word of an accepting state, or r + 1 if none is at most r.
 fn nearest(words: &[u16], condition: Condition, r: u16) -> u16
-    requires { ⌜ (length (now words) ≡ condition .states) × (condition .states ≤ 32) × (r < 65535) ⌝ }
+    requires { ⌜ (length (now words) ≡ condition .states) × (condition .states ≤ ceilings .states) × (r < ceilings .unreached) ⌝ }
     ensures { λ x. ⌜ x ≡ nearest (now (words .entry)) (condition .accept) (condition .states) (r + 1) ⌝ }
 {
     let states = condition.states;
@@ -61,7 +62,7 @@ fn stands(area: &[u16], n: usize, r: u16) -> bool
 }
 
 pub fn status(area: &[u16], marks: usize, condition: Condition, t: Mark, r: u16) -> Status
-    requires { ⌜ (t .0 < marks) × (marks ≤ 1024) × (condition .states ≤ 32) × (marks * condition .states ≤ length (now area)) × (r < 65535) ⌝ }
+    requires { ⌜ (t .0 < marks) × (marks ≤ ceilings .marks) × (condition .states ≤ ceilings .states) × (marks * condition .states ≤ length (now area)) × (r < ceilings .unreached) ⌝ }
     ensures { λ x. ⌜ x ≡ standing (nearest (row (now (area .entry)) (condition .states) (t .0)) (condition .accept) (condition .states) (r + 1)) r (stands (now (area .entry)) (marks * condition .states) r) ⌝ }
 {
     let states = condition.states;

@@ -1,6 +1,7 @@
 // The test of the area, refusal 8: mark by mark the row must be the least that the words below r offer it.
 
 ghost use Prim.Native.Nat.{_<_};
+ghost use Rattle.walk.specs.Ceilings.{ceilings};
 ghost use Rattle.rounds.specs.Judged.{Lent, Tells};
 use tables::numbers::Mark;
 use tables::runs;
@@ -23,7 +24,7 @@ pub fn right(
     sources: &[u32; Network::KINDS],
     area: &[u16],
 ) -> bool
-    requires { ⌜ Lent network condition ties (now from) (now to) (now kinds) (now table) (now sources) (now area) × (ask .from < network .marks) × (r < 65535) ⌝ }
+    requires { ⌜ Lent network condition ties (now from) (now to) (now kinds) (now table) (now sources) (now area) × (ask .from < network .marks) × (r < ceilings .unreached) ⌝ }
     ensures { λ x. ⌜ Tells network condition ask (now (from .entry)) (now (to .entry)) (now (kinds .entry)) (now (table .entry)) x r (now (area .entry)) ⌝ }
 {
     let states = condition.states;

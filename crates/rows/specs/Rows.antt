@@ -6,6 +6,7 @@ use mathlib.Core.Logic.{_⊎_}
 use mathlib.Core.Path.{_≡_}
 use lib.Dec.{leb, ltb, eqb}
 use lib.ListN.{length, getD, take, drop}
+use Rattle.walk.specs.Ceilings.{ceilings}
 use Rattle.walk.specs.Numbers.{has, _and_, anyBelow}
 
 -- the row of mark v
@@ -14,18 +15,18 @@ row A Q v = take Q (drop (v * Q) A)
 
 -- what refusals 1, 4 and 7 leave: V, K and Q within their ceilings, and room for V×Q words
 pub record Sized (marks kinds states : ℕ) (A : List ℕ) : Type 0 where
-  pub few : marks ≤ 1024
-  pub kinds-few : kinds ≤ 32
-  pub narrow : states ≤ 32
+  pub few : marks ≤ ceilings .marks
+  pub kinds-few : kinds ≤ ceilings .kinds
+  pub narrow : states ≤ ceilings .states
   pub room : marks * states ≤ length A
 
 -- the word of a pair for 0 rounds: 0 at a start pair
 abbrev pub opening : ℕ → ℕ → ℕ → ℕ → ℕ
-opening s start v q = cond (eqb s v and has start q) 0 65535
+opening s start v q = cond (eqb s v and has start q) 0 (ceilings .unreached)
 
--- 32 words, of which the first Q are f
+-- as many words as the ceiling of states, of which the first Q are f
 pub record Row (b : List ℕ) (Q : ℕ) (f : ℕ → ℕ) : Type 0 where
-  pub size : length b ≡ 32
+  pub size : length b ≡ ceilings .states
   pub says : (q : ℕ) → q < Q → getD b q 0 ≡ f q
 
 -- some of the first n words of W is not that of b

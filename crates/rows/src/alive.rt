@@ -3,6 +3,7 @@
 ghost use mathlib.Core.Path.{_≡_};
 ghost use Prim.Native.Nat.{_*_, _≤_, _<_};
 ghost use lib.ListN.{length};
+ghost use Rattle.walk.specs.Ceilings.{ceilings};
 ghost use Rattle.rows.specs.Rows.{between, Joined, AliveRow, Alive};
 use tables::numbers::Mark;
 use tables::numbers::State;
@@ -25,7 +26,7 @@ fn join(set: u32, p: State, d: u16, lo: u16, hi: u16) -> u32
 
 // The states of a row.
 fn of_row(words: &[u16], states: usize, lo: u16, hi: u16) -> u32
-    requires { ⌜ (length (now words) ≡ states) × (states ≤ 32) ⌝ }
+    requires { ⌜ (length (now words) ≡ states) × (states ≤ ceilings .states) ⌝ }
     ensures { λ r. ⌜ AliveRow r (now (words .entry)) states lo hi ⌝ }
 {
     let mut set = 0u32;
@@ -46,7 +47,7 @@ pub fn fill(
     lo: u16,
     hi: u16,
 )
-    requires { ⌜ (marks ≤ 1024) × (states ≤ 32) × (marks * states ≤ length (now area)) × (length (now live) ≡ 1024) ⌝ }
+    requires { ⌜ (marks ≤ ceilings .marks) × (states ≤ ceilings .states) × (marks * states ≤ length (now area)) × (length (now live) ≡ ceilings .marks) ⌝ }
     ensures { λ _. ⌜ Alive (now (live .exit)) (now (area .entry)) marks states lo hi ⌝ }
 {
     let mut v = 0;

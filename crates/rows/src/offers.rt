@@ -1,9 +1,10 @@
-// What the ties into a mark offer its states: one more than the word of each state alive that a tie and a move lead from. A row of 32 words is
+// What the ties into a mark offer its states: one more than the word of each state alive that a tie and a move lead from. A row of words is
 // lowered to the least offer.
 
 ghost use mathlib.Core.Path.{_≡_};
 ghost use Prim.Native.Nat.{_+_, _≤_, _<_};
 ghost use lib.ListN.{length, getD};
+ghost use Rattle.walk.specs.Ceilings.{ceilings};
 ghost use Rattle.rows.specs.Rows.{Sized};
 ghost use Rattle.rows.specs.Offers.{Lowered, One, Each, Between, ByKind, Along, OfTie, Within, Living, AllLiving, Narrow, TiesIn};
 use tables::numbers::Kind;
@@ -16,7 +17,7 @@ use walk::Network;
 
 // The word of one state, lowered to w.
 fn lower(row: &mut [u16; Condition::STATES], q: State, w: u16)
-    requires { ⌜ (q .0 < 32) × (length (now row) ≡ 32) ⌝ }
+    requires { ⌜ (q .0 < ceilings .states) × (length (now row) ≡ ceilings .states) ⌝ }
     ensures { λ _. ⌜ Lowered (One w (q .0)) (now (row .entry)) (now (row .exit)) ⌝ }
 {
     let at = q.index();
@@ -27,8 +28,8 @@ fn lower(row: &mut [u16; Condition::STATES], q: State, w: u16)
 
 // The words of a set of states, lowered to w.
 fn lower_all(row: &mut [u16; Condition::STATES], set: u32, states: usize, w: u16)
-    requires { ⌜ (states ≤ 32) × (length (now row) ≡ 32) × Within set states ⌝ }
-    ensures { λ _. ⌜ Lowered (Each set (One w) 32) (now (row .entry)) (now (row .exit)) ⌝ }
+    requires { ⌜ (states ≤ ceilings .states) × (length (now row) ≡ ceilings .states) × Within set states ⌝ }
+    ensures { λ _. ⌜ Lowered (Each set (One w) (ceilings .states)) (now (row .entry)) (now (row .exit)) ⌝ }
 {
     let mut rest = set;
     let mut n = 0;
@@ -43,7 +44,7 @@ fn lower_all(row: &mut [u16; Condition::STATES], set: u32, states: usize, w: u16
 
 // One more than the word of a state alive.
 fn more(words: &[u16], p: State) -> u16
-    requires { ⌜ (p .0 < length (now words)) × (getD (now words) (p .0) 0 < 65535) ⌝ }
+    requires { ⌜ (p .0 < length (now words)) × (getD (now words) (p .0) 0 < ceilings .unreached) ⌝ }
     ensures { λ r. ⌜ r ≡ getD (now (words .entry)) (p .0) 0 + 1 ⌝ }
 {
     let at = p.index();
@@ -59,7 +60,7 @@ fn by_kind(
     set: u32,
     states: usize,
 )
-    requires { ⌜ (k .0 < 32) × (states ≤ 32) × (length (now row) ≡ 32) × (length (now words) ≡ states) × Living (now words) set states × Narrow (now table) states ⌝ }
+    requires { ⌜ (k .0 < ceilings .kinds) × (states ≤ ceilings .states) × (length (now row) ≡ ceilings .states) × (length (now words) ≡ states) × Living (now words) set states × Narrow (now table) states ⌝ }
     ensures { λ _. ⌜ Lowered (ByKind (now (table .entry)) (now (words .entry)) set (k .0)) (now (row .entry)) (now (row .exit)) ⌝ }
 {
     let mut rest = set;
@@ -90,7 +91,7 @@ fn along(
     kinds: usize,
     states: usize,
 )
-    requires { ⌜ (kinds ≤ 32) × (states ≤ 32) × (length (now row) ≡ 32) × (length (now words) ≡ states) × Living (now words) live states × Narrow (now table) states × Within set kinds ⌝ }
+    requires { ⌜ (kinds ≤ ceilings .kinds) × (states ≤ ceilings .states) × (length (now row) ≡ ceilings .states) × (length (now words) ≡ states) × Living (now words) live states × Narrow (now table) states × Within set kinds ⌝ }
     ensures { λ _. ⌜ Lowered (Along (now (table .entry)) (now (sources .entry)) (now (words .entry)) live set) (now (row .entry)) (now (row .exit)) ⌝ }
 {
     let mut rest = set;
@@ -119,7 +120,7 @@ fn of_tie(
     ties: usize,
     e: Tie,
 )
-    requires { ⌜ (e .0 < ties) × (length (now row) ≡ 32) × Sized (network .marks) (network .kinds) states (now area) × TiesIn (network .marks) (network .kinds) ties (now from) (now sets) × AllLiving (now live) (now area) (network .marks) states × Narrow (now table) states ⌝ }
+    requires { ⌜ (e .0 < ties) × (length (now row) ≡ ceilings .states) × Sized (network .marks) (network .kinds) states (now area) × TiesIn (network .marks) (network .kinds) ties (now from) (now sets) × AllLiving (now live) (now area) (network .marks) states × Narrow (now table) states ⌝ }
     ensures { λ _. ⌜ Lowered (OfTie (now (table .entry)) (now (sources .entry)) (now (live .entry)) (now (area .entry)) states (now (from .entry)) (now (sets .entry)) (e .0)) (now (row .entry)) (now (row .exit)) ⌝ }
 {
     let u = e.leaves(from, network.marks);
@@ -156,7 +157,7 @@ pub fn into(
     first: usize,
     end: usize,
 )
-    requires { ⌜ (first ≤ end) × (end ≤ ties) × (length (now row) ≡ 32) × Sized (network .marks) (network .kinds) states (now area) × TiesIn (network .marks) (network .kinds) ties (now from) (now sets) × AllLiving (now live) (now area) (network .marks) states × Narrow (now table) states ⌝ }
+    requires { ⌜ (first ≤ end) × (end ≤ ties) × (length (now row) ≡ ceilings .states) × Sized (network .marks) (network .kinds) states (now area) × TiesIn (network .marks) (network .kinds) ties (now from) (now sets) × AllLiving (now live) (now area) (network .marks) states × Narrow (now table) states ⌝ }
     ensures { λ _. ⌜ Lowered (Between first (OfTie (now (table .entry)) (now (sources .entry)) (now (live .entry)) (now (area .entry)) states (now (from .entry)) (now (sets .entry))) end) (now (row .entry)) (now (row .exit)) ⌝ }
 {
     let mut e = first;

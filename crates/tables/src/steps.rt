@@ -6,6 +6,7 @@ ghost use mathlib.Core.Path.{_≡_};
 ghost use Prim.Native.Nat.{ℕ, _+_, _*_, _<_, _≤_, _^_};
 ghost use lib.ListN.{getD, set};
 ghost use lib.Bits.{bitOr};
+ghost use Rattle.walk.specs.Ceilings.{ceilings};
 ghost use Rattle.walk.specs.Numbers.{has};
 ghost use Rattle.walk.specs.Answers.{conditionOf};
 ghost use Rattle.tables.specs.Lent.{movesOf};
@@ -30,8 +31,8 @@ fn put(
     k: Kind,
     q: State,
 )
-    requires { ⌜ (p .0 < 32) × (k .0 < 32) × (q .0 < 32) ⌝ }
-    ensures table { λ _. ⌜ now (table .exit) ≡ set (now (table .entry)) (k .0 * 32 + p .0) (bitOr (getD (now (table .entry)) (k .0 * 32 + p .0) 0) (2 ^ q .0)) ⌝ }
+    requires { ⌜ (p .0 < ceilings .states) × (k .0 < ceilings .kinds) × (q .0 < ceilings .states) ⌝ }
+    ensures table { λ _. ⌜ now (table .exit) ≡ set (now (table .entry)) (k .0 * ceilings .states + p .0) (bitOr (getD (now (table .entry)) (k .0 * ceilings .states + p .0) 0) (2 ^ q .0)) ⌝ }
     ensures sources { λ _. ⌜ now (sources .exit) ≡ set (now (sources .entry)) (k .0) (bitOr (getD (now (sources .entry)) (k .0) 0) (2 ^ p .0)) ⌝ }
 {
     let kind = k.index();
@@ -51,7 +52,7 @@ pub fn fill(
     movekind: &[u16; Condition::MOVES],
     moveto: &[u16; Condition::MOVES],
 )
-    requires { ⌜ Clear (now table) 1024 × Clear (now sources) 32 × InRange kinds (conditionOf condition (movesOf moves (now movefrom) (now movekind) (now moveto))) ⌝ }
+    requires { ⌜ Clear (now table) (ceilings .kinds * ceilings .states) × Clear (now sources) (ceilings .kinds) × InRange kinds (conditionOf condition (movesOf moves (now movefrom) (now movekind) (now moveto))) ⌝ }
     ensures { λ _. ⌜ Filled (now (table .exit)) (now (sources .exit)) (conditionOf condition (movesOf moves (now (movefrom .entry)) (now (movekind .entry)) (now (moveto .entry)))) ⌝ }
 {
     let states = condition.states;
@@ -67,7 +68,7 @@ pub fn fill(
 
 // The states that follow p along a tie with these kinds.
 pub fn nexts(table: &[u32; Steps::WORDS], set: u32, kinds: usize, p: State) -> u32
-    requires { ⌜ (p .0 < 32) × (kinds ≤ 32) × ((k : ℕ) → has set k ≡ true → k < kinds) ⌝ }
+    requires { ⌜ (p .0 < ceilings .states) × (kinds ≤ ceilings .kinds) × ((k : ℕ) → has set k ≡ true → k < kinds) ⌝ }
     ensures { λ r. ⌜ ((q : ℕ) → has r q ≡ steps (now (table .entry)) set (p .0) q) ⌝ }
 {
     let mut all = 0u32;
