@@ -109,10 +109,26 @@ def heard(call, answer):
     return f"{call.name}: " + (f"refused {answer[1]}" if answer[0] == "refused" else answer[2][0])
 
 
+def features(q):
+    """What a network has that a careless program may trip over."""
+    ties = list(zip(q.froms, q.tos))
+    return [name for name, there in (
+        ("a tie with no kind", 0 in q.sets),
+        ("a tie with several kinds", any(kinds & kinds - 1 for kinds in q.sets)),
+        ("a tie from a mark to itself", any(fro == to for fro, to in ties)),
+        ("parallel ties", len(set(ties)) < len(ties)),
+        ("a repeated move", len(set(q.moves)) < len(q.moves)),
+        ("no start state", q.start == 0),
+        ("no accepting state", q.accept == 0),
+        ("s = t", q.s == q.t),
+    ) if there]
+
+
 def main():
-    program, seed, networks = sys.argv[1], int(sys.argv[2]), int(sys.argv[3])
+    program, seed = sys.argv[1], int(sys.argv[2])
     random.seed(seed)
-    calls = [call for _ in range(networks) for call in preparation(some_network())]
+    networks = [some_network() for _ in range(int(sys.argv[3]))]
+    calls = [call for q in networks for call in preparation(q)]
     calls = [call for call in calls if lendable(call.q)]
     said = subprocess.run([program], input=b"".join(map(packed, calls)), stdout=subprocess.PIPE, check=True).stdout
     met = collections.Counter()
@@ -123,7 +139,9 @@ def main():
             print(f"call {i} differs: {call}\n  expected {expected}\n  answered {answered}")
             sys.exit(1)
         met[heard(call, expected[0])] += 1
-    print(f"{networks} networks, {len(calls)} calls: every answer and every word of the area equal")
+    print(f"{len(networks)} networks, {len(calls)} calls: every answer and every word of the area equal")
+    had = collections.Counter(name for q in networks for name in features(q))
+    print("\n".join(f"{name}: {had[name]}" for name in sorted(had)))
     print("\n".join(f"{name} {met[name]}" for name in sorted(met)))
 
 
