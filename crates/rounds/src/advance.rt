@@ -24,8 +24,10 @@ pub fn advance(
     sources: &[u32; Network::KINDS],
     area: &mut [u16],
 )
-    requires { ⌜ Lent network condition ties (now from) (now to) (now kinds) (now table) (now sources) (now area) × (r + 1 < ceilings .unreached) × IsRight network condition ask (now from) (now to) (now kinds) (now table) r (now area) ⌝ }
-    ensures { λ _. ⌜ Advances network condition ask (now (from .entry)) (now (to .entry)) (now (kinds .entry)) (now (table .entry)) r (now (area .entry)) (now (area .exit)) ⌝ }
+    requires { ⌜ Lent network condition ties (now from) (now to) (now kinds) (now table) (now sources) (now area)
+        × (r + 1 < ceilings .unreached) × IsRight network condition ask (now from) (now to) (now kinds) (now table) r (now area) ⌝ }
+    ensures { λ _. ⌜ Advances network condition ask (now (from .entry)) (now (to .entry)) (now (kinds .entry)) (now (table .entry)) r
+        (now (area .entry)) (now (area .exit)) ⌝ }
 {
     let mut live = [0u32; Network::MARKS];
     rows::alive::fill(&mut live, area, network.marks, condition.states, r, r + 1);

@@ -50,7 +50,13 @@ impl Rounds {
         moveto: &[u16; Condition::MOVES],
         area: &mut [u16],
     ) -> Prepared
-        ensures { λ r. ⌜ Meets (start (question network condition ask (now (from .entry)) (now (to .entry)) (now (kinds .entry)) (movesOf moves (now (movefrom .entry)) (now (movekind .entry)) (now (moveto .entry)))) (now (area .entry))) (saidPrepared r) (now (area .exit)) ⌝ }
+        ensures { λ r. ⌜ Meets
+            (start
+            (question network condition ask (now (from .entry)) (now (to .entry)) (now (kinds .entry))
+            (movesOf moves (now (movefrom .entry)) (now (movekind .entry)) (now (moveto .entry))))
+            (now (area .entry)))
+            (saidPrepared r)
+            (now (area .exit)) ⌝ }
     {
         match tests::tested(
             network,
@@ -102,7 +108,14 @@ impl Rounds {
         moveto: &[u16; Condition::MOVES],
         area: &mut [u16],
     ) -> Prepared
-        ensures { λ r. ⌜ Meets (round (question network condition ask (now (from .entry)) (now (to .entry)) (now (kinds .entry)) (movesOf moves (now (movefrom .entry)) (now (movekind .entry)) (now (moveto .entry)))) (self .done) (now (area .entry))) (saidPrepared r) (now (area .exit)) ⌝ }
+        ensures { λ r. ⌜ Meets
+            (round
+            (question network condition ask (now (from .entry)) (now (to .entry)) (now (kinds .entry))
+            (movesOf moves (now (movefrom .entry)) (now (movekind .entry)) (now (moveto .entry))))
+            (self .done)
+            (now (area .entry)))
+            (saidPrepared r)
+            (now (area .exit)) ⌝ }
     {
         match tests::tested(
             network,
@@ -174,8 +187,10 @@ fn turn(
     sources: &[u32; Network::KINDS],
     area: &mut [u16],
 ) -> Prepared
-    requires { ⌜ Lent network condition ties (now from) (now to) (now kinds) (now table) (now sources) (now area) × (ask .from < network .marks) × (ask .to < network .marks) ⌝ }
-    ensures { λ r. ⌜ Turns network condition ask (now (from .entry)) (now (to .entry)) (now (kinds .entry)) (now (table .entry)) done (now (area .entry)) r (now (area .exit)) ⌝ }
+    requires { ⌜ Lent network condition ties (now from) (now to) (now kinds) (now table) (now sources) (now area)
+        × (ask .from < network .marks) × (ask .to < network .marks) ⌝ }
+    ensures { λ r. ⌜ Turns network condition ask (now (from .entry)) (now (to .entry)) (now (kinds .entry)) (now (table .entry)) done
+        (now (area .entry)) r (now (area .exit)) ⌝ }
 {
     if done > tests::pairs(network.marks, condition.states) {
         return Prepared::Refused(Refusal::WrongArea, 0);

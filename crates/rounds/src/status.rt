@@ -62,8 +62,10 @@ fn stands(area: &[u16], n: usize, r: u16) -> bool
 }
 
 pub fn status(area: &[u16], marks: usize, condition: Condition, t: Mark, r: u16) -> Status
-    requires { ⌜ (t .0 < marks) × (marks ≤ ceilings .marks) × (condition .states ≤ ceilings .states) × (marks * condition .states ≤ length (now area)) × (r < ceilings .unreached) ⌝ }
-    ensures { λ x. ⌜ x ≡ standing (nearest (row (now (area .entry)) (condition .states) (t .0)) (condition .accept) (condition .states) (r + 1)) r (stands (now (area .entry)) (marks * condition .states) r) ⌝ }
+    requires { ⌜ (t .0 < marks) × (marks ≤ ceilings .marks) × (condition .states ≤ ceilings .states)
+        × (marks * condition .states ≤ length (now area)) × (r < ceilings .unreached) ⌝ }
+    ensures { λ x. ⌜ x ≡ standing (nearest (row (now (area .entry)) (condition .states) (t .0)) (condition .accept) (condition .states)
+        (r + 1)) r (stands (now (area .entry)) (marks * condition .states) r) ⌝ }
 {
     let states = condition.states;
     let at = rows::place(t, states, marks);

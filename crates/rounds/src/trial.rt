@@ -24,8 +24,10 @@ pub fn right(
     sources: &[u32; Network::KINDS],
     area: &[u16],
 ) -> bool
-    requires { ⌜ Lent network condition ties (now from) (now to) (now kinds) (now table) (now sources) (now area) × (ask .from < network .marks) × (r < ceilings .unreached) ⌝ }
-    ensures { λ x. ⌜ Tells network condition ask (now (from .entry)) (now (to .entry)) (now (kinds .entry)) (now (table .entry)) x r (now (area .entry)) ⌝ }
+    requires { ⌜ Lent network condition ties (now from) (now to) (now kinds) (now table) (now sources) (now area)
+        × (ask .from < network .marks) × (r < ceilings .unreached) ⌝ }
+    ensures { λ x. ⌜ Tells network condition ask (now (from .entry)) (now (to .entry)) (now (kinds .entry)) (now (table .entry)) x r
+        (now (area .entry)) ⌝ }
 {
     let states = condition.states;
     let s = Mark::tested(ask.from, network.marks);

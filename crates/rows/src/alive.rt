@@ -47,7 +47,8 @@ pub fn fill(
     lo: u16,
     hi: u16,
 )
-    requires { ⌜ (marks ≤ ceilings .marks) × (states ≤ ceilings .states) × (marks * states ≤ length (now area)) × (length (now live) ≡ ceilings .marks) ⌝ }
+    requires { ⌜ (marks ≤ ceilings .marks) × (states ≤ ceilings .states) × (marks * states ≤ length (now area))
+        × (length (now live) ≡ ceilings .marks) ⌝ }
     ensures { λ _. ⌜ Alive (now (live .exit)) (now (area .entry)) marks states lo hi ⌝ }
 {
     let mut v = 0;

@@ -60,7 +60,8 @@ fn by_kind(
     set: u32,
     states: usize,
 )
-    requires { ⌜ (k .0 < ceilings .kinds) × (states ≤ ceilings .states) × (length (now row) ≡ ceilings .states) × (length (now words) ≡ states) × Living (now words) set states × Narrow (now table) states ⌝ }
+    requires { ⌜ (k .0 < ceilings .kinds) × (states ≤ ceilings .states) × (length (now row) ≡ ceilings .states)
+        × (length (now words) ≡ states) × Living (now words) set states × Narrow (now table) states ⌝ }
     ensures { λ _. ⌜ Lowered (ByKind (now (table .entry)) (now (words .entry)) set (k .0)) (now (row .entry)) (now (row .exit)) ⌝ }
 {
     let mut rest = set;
@@ -91,8 +92,10 @@ fn along(
     kinds: usize,
     states: usize,
 )
-    requires { ⌜ (kinds ≤ ceilings .kinds) × (states ≤ ceilings .states) × (length (now row) ≡ ceilings .states) × (length (now words) ≡ states) × Living (now words) live states × Narrow (now table) states × Within set kinds ⌝ }
-    ensures { λ _. ⌜ Lowered (Along (now (table .entry)) (now (sources .entry)) (now (words .entry)) live set) (now (row .entry)) (now (row .exit)) ⌝ }
+    requires { ⌜ (kinds ≤ ceilings .kinds) × (states ≤ ceilings .states) × (length (now row) ≡ ceilings .states)
+        × (length (now words) ≡ states) × Living (now words) live states × Narrow (now table) states × Within set kinds ⌝ }
+    ensures { λ _. ⌜ Lowered (Along (now (table .entry)) (now (sources .entry)) (now (words .entry)) live set) (now (row .entry))
+        (now (row .exit)) ⌝ }
 {
     let mut rest = set;
     let mut n = 0;
@@ -120,8 +123,11 @@ fn of_tie(
     ties: usize,
     e: Tie,
 )
-    requires { ⌜ (e .0 < ties) × (length (now row) ≡ ceilings .states) × Sized (network .marks) (network .kinds) states (now area) × TiesIn (network .marks) (network .kinds) ties (now from) (now sets) × AllLiving (now live) (now area) (network .marks) states × Narrow (now table) states ⌝ }
-    ensures { λ _. ⌜ Lowered (OfTie (now (table .entry)) (now (sources .entry)) (now (live .entry)) (now (area .entry)) states (now (from .entry)) (now (sets .entry)) (e .0)) (now (row .entry)) (now (row .exit)) ⌝ }
+    requires { ⌜ (e .0 < ties) × (length (now row) ≡ ceilings .states) × Sized (network .marks) (network .kinds) states (now area)
+        × TiesIn (network .marks) (network .kinds) ties (now from) (now sets) × AllLiving (now live) (now area) (network .marks) states
+        × Narrow (now table) states ⌝ }
+    ensures { λ _. ⌜ Lowered (OfTie (now (table .entry)) (now (sources .entry)) (now (live .entry)) (now (area .entry)) states
+        (now (from .entry)) (now (sets .entry)) (e .0)) (now (row .entry)) (now (row .exit)) ⌝ }
 {
     let u = e.leaves(from, network.marks);
     let set = live[u.index()];
@@ -157,8 +163,11 @@ pub fn into(
     first: usize,
     end: usize,
 )
-    requires { ⌜ (first ≤ end) × (end ≤ ties) × (length (now row) ≡ ceilings .states) × Sized (network .marks) (network .kinds) states (now area) × TiesIn (network .marks) (network .kinds) ties (now from) (now sets) × AllLiving (now live) (now area) (network .marks) states × Narrow (now table) states ⌝ }
-    ensures { λ _. ⌜ Lowered (Between first (OfTie (now (table .entry)) (now (sources .entry)) (now (live .entry)) (now (area .entry)) states (now (from .entry)) (now (sets .entry))) end) (now (row .entry)) (now (row .exit)) ⌝ }
+    requires { ⌜ (first ≤ end) × (end ≤ ties) × (length (now row) ≡ ceilings .states)
+        × Sized (network .marks) (network .kinds) states (now area) × TiesIn (network .marks) (network .kinds) ties (now from) (now sets)
+        × AllLiving (now live) (now area) (network .marks) states × Narrow (now table) states ⌝ }
+    ensures { λ _. ⌜ Lowered (Between first (OfTie (now (table .entry)) (now (sources .entry)) (now (live .entry)) (now (area .entry)) states
+        (now (from .entry)) (now (sets .entry))) end) (now (row .entry)) (now (row .exit)) ⌝ }
 {
     let mut e = first;
     while e < end {

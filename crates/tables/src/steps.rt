@@ -32,7 +32,8 @@ fn put(
     q: State,
 )
     requires { ⌜ (p .0 < ceilings .states) × (k .0 < ceilings .kinds) × (q .0 < ceilings .states) ⌝ }
-    ensures table { λ _. ⌜ now (table .exit) ≡ set (now (table .entry)) (k .0 * ceilings .states + p .0) (bitOr (getD (now (table .entry)) (k .0 * ceilings .states + p .0) 0) (2 ^ q .0)) ⌝ }
+    ensures table { λ _. ⌜ now (table .exit) ≡ set (now (table .entry)) (k .0 * ceilings .states + p .0) (bitOr (getD (now (table .entry))
+        (k .0 * ceilings .states + p .0) 0) (2 ^ q .0)) ⌝ }
     ensures sources { λ _. ⌜ now (sources .exit) ≡ set (now (sources .entry)) (k .0) (bitOr (getD (now (sources .entry)) (k .0) 0) (2 ^ p .0)) ⌝ }
 {
     let kind = k.index();
@@ -52,8 +53,10 @@ pub fn fill(
     movekind: &[u16; Condition::MOVES],
     moveto: &[u16; Condition::MOVES],
 )
-    requires { ⌜ Clear (now table) (ceilings .kinds * ceilings .states) × Clear (now sources) (ceilings .kinds) × InRange kinds (conditionOf condition (movesOf moves (now movefrom) (now movekind) (now moveto))) ⌝ }
-    ensures { λ _. ⌜ Filled (now (table .exit)) (now (sources .exit)) (conditionOf condition (movesOf moves (now (movefrom .entry)) (now (movekind .entry)) (now (moveto .entry)))) ⌝ }
+    requires { ⌜ Clear (now table) (ceilings .kinds * ceilings .states) × Clear (now sources) (ceilings .kinds)
+        × InRange kinds (conditionOf condition (movesOf moves (now movefrom) (now movekind) (now moveto))) ⌝ }
+    ensures { λ _. ⌜ Filled (now (table .exit)) (now (sources .exit)) (conditionOf condition (movesOf moves (now (movefrom .entry))
+        (now (movekind .entry)) (now (moveto .entry)))) ⌝ }
 {
     let states = condition.states;
     let mut j = 0;

@@ -135,7 +135,8 @@ fn bad_move(
     j: usize,
 ) -> bool
     requires { ⌜ (j < moves) × (j < ceilings .moves) ⌝ }
-    ensures { λ r. ⌜ r ≡ badMoveAt kinds (conditionOf condition (movesOf moves (now (movefrom .entry)) (now (movekind .entry)) (now (moveto .entry)))) j ⌝ }
+    ensures { λ r. ⌜ r ≡ badMoveAt kinds (conditionOf condition (movesOf moves (now (movefrom .entry)) (now (movekind .entry))
+        (now (moveto .entry)))) j ⌝ }
 {
     if wide(movefrom, j) >= condition.states {
         return true;
@@ -156,7 +157,8 @@ fn first_bad_move(
     moveto: &[u16; Condition::MOVES],
 ) -> usize
     requires { ⌜ moves ≤ ceilings .moves ⌝ }
-    ensures { λ r. ⌜ r ≡ least (badMoveAt kinds (conditionOf condition (movesOf moves (now (movefrom .entry)) (now (movekind .entry)) (now (moveto .entry))))) moves ⌝ }
+    ensures { λ r. ⌜ r ≡ least (badMoveAt kinds (conditionOf condition (movesOf moves (now (movefrom .entry)) (now (movekind .entry))
+        (now (moveto .entry))))) moves ⌝ }
 {
     let mut j = 0;
     while j < moves {
@@ -200,7 +202,8 @@ pub fn tested(
     moveto: &[u16; Condition::MOVES],
     area: &[u16],
 ) -> Verdict
-    ensures { λ r. ⌜ r ≡ firstGiven (start-tests (question network condition ask (now (from .entry)) (now (to .entry)) (now (kinds .entry)) (movesOf moves (now (movefrom .entry)) (now (movekind .entry)) (now (moveto .entry)))) (now (area .entry))) ⌝ }
+    ensures { λ r. ⌜ r ≡ firstGiven (start-tests (question network condition ask (now (from .entry)) (now (to .entry)) (now (kinds .entry))
+        (movesOf moves (now (movefrom .entry)) (now (movekind .entry)) (now (moveto .entry)))) (now (area .entry))) ⌝ }
 {
     if bad_sizes(network, from, to, kinds) {
         return Verdict::Refused(Refusal::Sizes, 0);
