@@ -63,7 +63,8 @@ module _ (n : network.Network) (c : condition.Condition) (a : Ask) (from to sets
     rightly m tab acc = area-right (D m .network) (D m .condition) (a .from) r A (size .room) .0 (is-right m tab acc)
 
     module _ (S L : List ℕ) (ties v i z : ℕ) (A′ A″ o b : List ℕ) (lead : Leads T S (c .states)) (liv : Alive L A (n .marks) (c .states) r (r + 1))
-        (froms : length from ≡ ties) (hv : v < n .marks) (cut : Cut to ties v i) (cut′ : Cut to ties (suc v) z) (row : Row o (c .states) (λ q. getD A′ (v * c .states + q) 0))
+        (froms : length from ≡ ties) (hv : v < n .marks) (cut : Cut to ties v i) (cut′ : Cut to ties (suc v) z)
+        (row : Row o (c .states) (λ q. getD A′ (v * c .states + q) 0))
         (low : Lowered (Between i (OfTie T S L A′ (c .states) from sets) z) o b) (put : Put A′ A″ b (v * c .states) (c .states)) (F : Sofar v A′) where
       lowered : (j : ℕ) → getD A″ j 0 ≤ getD A j 0
       lowered j = go (ltb j (v * c .states)) refl (ltb j (v * c .states + c .states)) refl
@@ -94,7 +95,8 @@ module _ (n : network.Network) (c : condition.Condition) (a : Ask) (from to sets
         -- the words that are r stand where they stood
         raised : (u q : ℕ) → between r (r + 1) (new u q) ≡ between r (r + 1) (old u q)
         unfolding old new
-        raised u q = ap (λ (k : ℕ). between r (r + 1) k) (word-suc (D m .network) (D m .condition) (a .from) (sound m acc) r u q few) ∙ go (leb (old u q) r) refl (comes (D m .network) (D m .condition) (a .from) old r u q)
+        raised u q = ap (λ (k : ℕ). between r (r + 1) k) (word-suc (D m .network) (D m .condition) (a .from) (sound m acc) r u q few) ∙ go
+            (leb (old u q) r) refl (comes (D m .network) (D m .condition) (a .from) old r u q)
           where
             go : (t : Bool) → leb (old u q) r ≡ t → (s : Bool) → between r (r + 1) (cond t (old u q) (cond s (suc r) unreached)) ≡ between r (r + 1) (old u q)
             go true e s = refl
@@ -129,7 +131,8 @@ module _ (n : network.Network) (c : condition.Condition) (a : Ask) (from to sets
 
         written : (q : ℕ) → q < c .states → getD b q 0 ≡ new v q
         unfolding old new
-        written q h = go (leb (old v q) r) refl (comes (D m .network) (D m .condition) (a .from) old r v q) refl ∙ sym (word-suc (D m .network) (D m .condition) (a .from) (sound m acc) r v q few)
+        written q h = go (leb (old v q) r) refl (comes (D m .network) (D m .condition) (a .from) old r v q) refl ∙ sym
+            (word-suc (D m .network) (D m .condition) (a .from) (sound m acc) r v q few)
           where
             nar : c .states ≤ 32
             nar = size .narrow
@@ -154,14 +157,17 @@ module _ (n : network.Network) (c : condition.Condition) (a : Ask) (from to sets
                 let (l, l′) = between-in r (r + 1) (getD A′ (u * c .states + p) 0) (sym (level u p hu hp) ∙ between-yes r (r + 1) _ (omega arith) (omega arith)) in
                 let k = arcs .takes q (suc (getD A′ (u * c .states + p) 0)) (omega arith) (u, p, x, l, l′, refl) in
                 let d = leb-false (old v q) r e in
-                ⊎-elim (λ y. (let z : getD b q 0 ≡ old v q = y ∙ was in absurd (far z d k l′))) (λ (u, p, y, l, l′, g). (let z : getD b q 0 ≡ suc r = omega arith in z)) shape
+                ⊎-elim (λ y. (let z : getD b q 0 ≡ old v q = y ∙ was in absurd (far z d k l′)))
+                (λ (u, p, y, l, l′, g). (let z : getD b q 0 ≡ suc r = omega arith in z)) shape
               where
                 far : {w : ℕ} → getD b q 0 ≡ old v q → r < old v q → getD b q 0 ≤ suc w → w < r + 1 → ⊥
-                far {w} y d k l = ⊎-elim (λ (g : old v q ≤ r). omega arith) (λ (g : old v q ≡ unreached). omega arith) (word-is (D m .network) (D m .condition) (a .from) r v q (omega arith) .small)
+                far {w} y d k l = ⊎-elim (λ (g : old v q ≤ r). omega arith) (λ (g : old v q ≡ unreached). omega arith)
+                    (word-is (D m .network) (D m .condition) (a .from) r v q (omega arith) .small)
             go false e false f =
                 let d = leb-false (old v q) r e in
                 ⊎-elim
-                (λ y. y ∙ was ∙ ⊎-elim (λ (g : old v q ≤ r). absurd (omega arith)) (λ g. g) (word-is (D m .network) (D m .condition) (a .from) r v q (omega arith) .small))
+                (λ y. y ∙ was ∙ ⊎-elim (λ (g : old v q ≤ r). absurd (omega arith)) (λ g. g)
+                (word-is (D m .network) (D m .condition) (a .from) r v q (omega arith) .small))
                 (λ (u, p, y, l, l′, g).
                 (let (hu, hp, _, _) = arc-in (D m .network) (D m .condition) (sound m acc) u p v q y in
                 let (k, k′) = between-in r (r + 1) (getD A (u * c .states + p) 0) (level u p hu hp ∙ between-yes r (r + 1) _ l l′) in

@@ -14,7 +14,8 @@ use Rattle.rows.specs.Rows.{opening, RowsTo}
 use Rattle.rows.proofs.RowLaws.{whole}
 use Rattle.rounds.proofs.Offered.{at}
 
-pub begun : (D : Question) (A A′ : List ℕ) (s : ℕ) → Accepted D → s ≡ D .from → pairs D ≤ length A → RowsTo A A′ (D .condition .states) (D .network .marks) (opening s (D .condition .start))
+pub begun : (D : Question) (A A′ : List ℕ) (s : ℕ) → Accepted D → s ≡ D .from → pairs D ≤ length A → RowsTo A A′ (D .condition .states)
+    (D .network .marks) (opening s (D .condition .start))
     → A′ ≡ right D 0 ++ drop (pairs D) A
 unfolding right usable starts
 begun D A A′ s acc e room R =

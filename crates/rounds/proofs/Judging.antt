@@ -57,7 +57,8 @@ module _ (N : Network) (C : Condition) (s r : ℕ) (A : List ℕ) (ok : Sound N 
     small = λ v q h k. M v h .small q k;
   }
 
-  module _ (few : r < unreached) (narrow : C .states ≤ 32) (v : ℕ) (o b : List ℕ) (op : Row o (C .states) (opening s (C .start) v)) (low : Lowered (From N C A 0 r v) o b) where
+  module _ (few : r < unreached) (narrow : C .states ≤ 32) (v : ℕ) (o b : List ℕ) (op : Row o (C .states) (opening s (C .start) v))
+      (low : Lowered (From N C A 0 r v) o b) where
     -- where the row begins: 0 at a start pair, else unreached
     opens : (q : ℕ) → q < C .states → (((s ≡ v) × Yes (starts C q)) × (getD o q 0 ≡ 0)) ⊎ ((((s ≡ v) × Yes (starts C q)) → ⊥) × (getD o q 0 ≡ 65535))
     unfolding starts
@@ -95,7 +96,8 @@ module _ (N : Network) (C : Condition) (s r : ℕ) (A : List ℕ) (ok : Sound N 
         cm q d h e l =
             let z = E q h in
             ⊎-elim
-            (λ (x : getD b q 0 ≡ getD o q 0). ⊎-elim (λ (_, y). absurd (let w : getD o q 0 ≡ 0 = y in omega arith)) (λ (_, y). absurd (let w : getD o q 0 ≡ 65535 = y in omega arith)) (opens q h))
+            (λ (x : getD b q 0 ≡ getD o q 0). ⊎-elim (λ (_, y). absurd (let w : getD o q 0 ≡ 0 = y in omega arith))
+            (λ (_, y). absurd (let w : getD o q 0 ≡ 65535 = y in omega arith)) (opens q h))
             (λ (u, p, x, _, m, f). (u, p, x, omega arith))
             (shape q h)
 
@@ -138,7 +140,8 @@ module _ (N : Network) (C : Condition) (s r : ℕ) (A : List ℕ) (ok : Sound N 
             let k = low .keeps q (omega arith) in
             ⊎-elim
             (λ (g : at C A v q ≤ r). reached (at C A v q) refl g)
-            (λ (g : at C A v q ≡ 65535). ⊎-elim (λ (_, y). (let w : getD o q 0 ≡ 0 = y in omega arith)) (λ (_, y). (let w : getD o q 0 ≡ 65535 = y in omega arith)) (opens q h))
+            (λ (g : at C A v q ≡ 65535). ⊎-elim (λ (_, y). (let w : getD o q 0 ≡ 0 = y in omega arith))
+            (λ (_, y). (let w : getD o q 0 ≡ 65535 = y in omega arith)) (opens q h))
             (M .small q h)
 
 module _ (n : network.Network) (c : condition.Condition) (a : Ask) (from to sets T A : List ℕ) (r : ℕ) where
@@ -168,7 +171,8 @@ module _ (n : network.Network) (c : condition.Condition) (a : Ask) (from to sets
     passed-all v e P m tab acc =
         (λ _. test m acc .0 (at-local (D m .network) (D m .condition) (a .from) r A (sound m acc) (λ u h. P m tab acc u (rw (← e) at h))), λ _. refl)
 
-    module _ (S L : List ℕ) (ties : ℕ) (lead : Leads T S (c .states)) (liv : Alive L A (n .marks) (c .states) 0 r) (froms : length from ≡ ties) (v i z : ℕ) (o b W : List ℕ) (hv : v < n .marks)
+    module _ (S L : List ℕ) (ties : ℕ) (lead : Leads T S (c .states)) (liv : Alive L A (n .marks) (c .states) 0 r) (froms : length from ≡ ties)
+        (v i z : ℕ) (o b W : List ℕ) (hv : v < n .marks)
         (cut : Cut to ties v i) (cut′ : Cut to ties (suc v) z) (op : Row o (c .states) (opening (a .from) (c .start) v))
         (low : Lowered (Between i (OfTie T S L A (c .states) from sets) z) o b) (eW : W ≡ row A (c .states) v) where
       arcs : (m : List Move) → Tabled T (D m .condition) → Accepted (D m) → Lowered (From (D m .network) (D m .condition) A 0 r v) o b

@@ -56,10 +56,12 @@ module _ (D : Question) (w : List ℕ) where
   round-refused r n p e = meets-as _ _ _ w (refused-answers w _ _ n p (given-before (start-tests D w) _ n p e)) (record { answers = refl; leaves = refl })
 
   -- the tests pass
-  pub start-passed : (S : Status) (w′ : List ℕ) → firstGiven (start-tests D w) ≡ Passed → S ≡ status D 0 → w′ ≡ right D 0 ++ drop (pairs D) w → Meets (start D w) (gives (record { done = 0; status = S })) w′
+  pub start-passed : (S : Status) (w′ : List ℕ) → firstGiven (start-tests D w) ≡ Passed → S ≡ status D 0 → w′ ≡ right D 0 ++ drop (pairs D) w → Meets
+      (start D w) (gives (record { done = 0; status = S })) w′
   unfolding start prepared progress
   start-passed S w′ e f g =
-      meets-as _ _ _ w′ (judged-none w _ (start-tests D w) (passed-none _ e)) (record { answers = ap (λ (s : Status). gives (record { done = 0; status = s })) f; leaves = g })
+      meets-as _ _ _ w′ (judged-none w _ (start-tests D w) (passed-none _ e))
+      (record { answers = ap (λ (s : Status). gives (record { done = 0; status = s })) f; leaves = g })
 
   pub round-passed : (r : ℕ) (x : Answer Progress) (w′ : List ℕ) → firstGiven (start-tests D w) ≡ Passed → Meets (turned D r w) x w′ → Meets (round D r w) x w′
   unfolding round round-tests turned
@@ -85,7 +87,8 @@ module _ (D : Question) (w : List ℕ) where
     pub turned-stays : (S : Status) → S ≡ status D r → isGoing S ≡ false → Meets (turned D r w) (gives (record { done = r; status = S })) w
     unfolding progress
     turned-stays S e f =
-        meets-as _ _ _ w (behind ∙ ap (λ (t : Bool). cond t (prepared D (suc r) w) (leave (progress D r) w)) (ap isGoing (sym e) ∙ f)) (record { answers = ap (λ (s : Status). gives (record { done = r; status = s })) e; leaves = refl })
+        meets-as _ _ _ w (behind ∙ ap (λ (t : Bool). cond t (prepared D (suc r) w) (leave (progress D r) w)) (ap isGoing (sym e) ∙ f))
+        (record { answers = ap (λ (s : Status). gives (record { done = r; status = s })) e; leaves = refl })
 
     pub turned-goes : (F S : Status) (w′ : List ℕ) → F ≡ status D r → isGoing F ≡ true → S ≡ status D (r + 1) → w′ ≡ right D (suc r) ++ drop (pairs D) w
         → Meets (turned D r w) (gives (record { done = r + 1; status = S })) w′

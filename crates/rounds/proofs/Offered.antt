@@ -40,8 +40,15 @@ module _ (N : Network) (C : Condition) (T S L A : List ℕ) (lo hi : ℕ) (ok : 
       let u = fromOf N e in
       let (lv, _) = and-in _ _ (sym (has-and (getD L u 0) (getD S k 0) p) ∙ tp) in
       let (a, b, c) = alive-in L A (N .marks) (C .states) lo hi u p liv (ok .from-in e he) lv in
-      let f : Yes (follows C p k q) = subst (λ (n : ℕ). Yes (follows C p k n)) (sym eq) (sym (tab k p i hk hp) ∙ ti) in
-      (u, p, record { tie = e; tie-in = he; leaves = refl; arrives = hv; steps = leads-of N C ok e p q k tk f }, b, c, ew ∙ ap (λ (n : ℕ). n + 1) (row-at A (C .states) u p a) ∙ add-one _)
+      let f : Yes (follows C p k q) = subst (λ (n : ℕ). Yes (follows C p k n)) (sym eq) (sym (tab k p i hk hp) ∙ ti) in (
+        u,
+        p,
+        record { tie = e; tie-in = he; leaves = refl; arrives = hv; steps = leads-of N C ok e p q k tk f },
+        b,
+        c,
+        ew ∙ ap (λ (n : ℕ). n + 1)
+            (row-at A (C .states) u p a) ∙ add-one _,
+      )
 
   arc-offer : (u p v q : ℕ) (x : Arc N C u p v q) → lo ≤ at C A u p → at C A u p < hi → Offer (x .tie) q (suc (at C A u p))
   arc-offer u p v q x l h =
@@ -56,7 +63,8 @@ module _ (N : Network) (C : Condition) (T S L A : List ℕ) (lo hi : ℕ) (ok : 
       let both : Yes (has (bitAnd (getD L u 0) (getD S k 0)) p) = has-and (getD L u 0) (getD S k 0) p ∙ and-of lv (lead .covers k p q k32 p32 st) in
       rw (x .leaves) (k, k32, tk, (p, p32, both, (q, omega arith, st, (refl, sym (add-one _) ∙ ap (λ (n : ℕ). n + 1) (sym (row-at A (C .states) u p hp))))))
 
-  pub offered : (v a z : ℕ) (b b′ : List ℕ) → Cut (N .tos) (ties N) v a → Cut (N .tos) (ties N) (suc v) z → Lowered (Between a Offer z) b b′ → Lowered (From N C A lo hi v) b b′
+  pub offered : (v a z : ℕ) (b b′ : List ℕ) → Cut (N .tos) (ties N) v a → Cut (N .tos) (ties N) (suc v) z → Lowered (Between a Offer z) b b′
+      → Lowered (From N C A lo hi v) b b′
   offered v a z b b′ cut cut′ low = lowered-as (Between a Offer z) (From N C A lo hi v) b b′ low arc-into into-arc
     where
       into-arc : (q w : ℕ) → Between a Offer z q w → From N C A lo hi v q w

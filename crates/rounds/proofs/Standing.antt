@@ -37,7 +37,8 @@ pub near-none : (words : List ℕ) (set b : ℕ) → Near words set 0 b b
 unfolding anyBelow
 near-none words set b = record { within = omega arith; least = record { passes = λ h. absurd (omega arith); none-before = λ m h t. false≢true t } }
 
-pub near-more : (words : List ℕ) (set n b k w : ℕ) (t : Bool) → t ≡ has set n → w ≡ getD words n 0 → Near words set n b k → Near words set (n + 1) b (cond (t and ltb w k) w k)
+pub near-more : (words : List ℕ) (set n b k w : ℕ) (t : Bool) → t ≡ has set n → w ≡ getD words n 0 → Near words set n b k → Near words set (n + 1) b
+    (cond (t and ltb w k) w k)
 unfolding _and_
 near-more words set n b k w t et ew N = go t et (ltb w k) refl
   where
@@ -83,7 +84,8 @@ module _ (D : Question) (r : ℕ) (A : List ℕ) (is-right : take (pairs D) A �
   unfolding nearest smallest accepts right usable
   nearest-is ht =
       ap (λ (b : ℕ). least (has-word (row A (D .condition .states) (D .to)) (D .condition .accept) (D .condition .states)) b) (add-one r)
-      ∙ ap (λ (p : ℕ → Bool). least p (suc r)) (fun-ext (λ d. any-same (D .condition .states) _ _ (λ q h. ap (λ (w : ℕ). has (D .condition .accept) q and eqb w d) (word-at q h))))
+      ∙ ap (λ (p : ℕ → Bool). least p (suc r)) (fun-ext
+      (λ d. any-same (D .condition .states) _ _ (λ q h. ap (λ (w : ℕ). has (D .condition .accept) q and eqb w d) (word-at q h))))
     where
       word-at : (q : ℕ) → q < D .condition .states → getD (row A (D .condition .states) (D .to)) q 0 ≡ word (D .network) (D .condition) (D .from) r (D .to) q
       word-at q h = row-at A (D .condition .states) (D .to) q h ∙ area-right (D .network) (D .condition) (D .from) r A long .0 is-right (D .to) q ht h

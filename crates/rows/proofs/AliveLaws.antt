@@ -91,7 +91,8 @@ alive-more L A W n v Q lo hi x size hv hn room e X F u p h = go (eqb u v) refl
     go false f = let ne : ¬ (u ≡ v) = eqb-false u v f in ap (λ (n : ℕ). has n p) (getD-set-other L v u x 0 (eqb-false u v f)) ∙ F u p (omega arith)
 
 -- what is alive is a state, and reached
-pub alive-in : (L A : List ℕ) (n Q lo hi u p : ℕ) → Alive L A n Q lo hi → u < n → Yes (has (getD L u 0) p) → (p < Q) × (lo ≤ getD A (u * Q + p) 0) × (getD A (u * Q + p) 0 < hi)
+pub alive-in : (L A : List ℕ) (n Q lo hi u p : ℕ) → Alive L A n Q lo hi → u < n → Yes (has (getD L u 0) p) → (p < Q) × (lo ≤ getD A (u * Q + p) 0) ×
+    (getD A (u * Q + p) 0 < hi)
 alive-in L A n Q lo hi u p F h t =
     let (a, b) = and-in _ _ (sym (F u p h) ∙ t) in
     let (c, d) = between-in lo hi (getD A (u * Q + p) 0) b in

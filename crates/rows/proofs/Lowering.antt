@@ -20,7 +20,8 @@ lowered-none : (P : ℕ → ℕ → Type 0) (b : List ℕ) → length b ≡ 32 �
 lowered-none P b e never = record { size = e; keeps = λ q h. le-refl _; takes = λ q w h p. absurd (never q w p); comes = λ q h. inl refl }
 
 -- first by P and then by P′: by both
-lowered-then : (P P′ R : ℕ → ℕ → Type 0) (b b′ b″ : List ℕ) → Lowered P b b′ → Lowered P′ b′ b″ → ((q w : ℕ) → R q w → P q w ⊎ P′ q w) → ((q w : ℕ) → P q w → R q w) → ((q w : ℕ) → P′ q w → R q w) → Lowered R b b″
+lowered-then : (P P′ R : ℕ → ℕ → Type 0) (b b′ b″ : List ℕ) → Lowered P b b′ → Lowered P′ b′ b″ → ((q w : ℕ) → R q w → P q w ⊎ P′ q w) →
+    ((q w : ℕ) → P q w → R q w) → ((q w : ℕ) → P′ q w → R q w) → Lowered R b b″
 lowered-then P P′ R b b′ b″ L M split f g = record { size = M .size; keeps = λ q h. le-trans (M .keeps q h) (L .keeps q h); takes = tk; comes = cm }
   where
     tk : (q w : ℕ) → q < 32 → R q w → getD b″ q 0 ≤ w
@@ -49,8 +50,10 @@ lowered-as P R b b′ L f g = record { size = L .size; keeps = L .keeps; takes =
 pub each-none : (s : ℕ) (P : ℕ → ℕ → ℕ → Type 0) (b : List ℕ) → length b ≡ 32 → Lowered (Each s P 0) b b
 each-none s P b e = lowered-none (Each s P 0) b e (λ q w x. not-suc-le-zero (x .1))
 
-pub each-more : (s rest n z : ℕ) (P : ℕ → ℕ → ℕ → Type 0) (b b′ b″ : List ℕ) → Walk s rest n z → Lowered (Each s P n) b b′ → Lowered (P (n + z)) b′ b″ → Lowered (Each s P (n + z + 1)) b b″
-each-more s rest n z P b b′ b″ W L M = lowered-then (Each s P n) (P (n + z)) (Each s P (n + z + 1)) b b′ b″ L M split (λ q w x. (x .0, omega (arith, x .1), x .2, x .3)) (λ q w x. (n + z, omega arith, W .stands, x))
+pub each-more : (s rest n z : ℕ) (P : ℕ → ℕ → ℕ → Type 0) (b b′ b″ : List ℕ) → Walk s rest n z → Lowered (Each s P n) b b′ → Lowered
+    (P (n + z)) b′ b″ → Lowered (Each s P (n + z + 1)) b b″
+each-more s rest n z P b b′ b″ W L M = lowered-then (Each s P n) (P (n + z)) (Each s P (n + z + 1)) b b′ b″ L M split
+    (λ q w x. (x .0, omega (arith, x .1), x .2, x .3)) (λ q w x. (n + z, omega arith, W .stands, x))
   where
     split : (q w : ℕ) → Each s P (n + z + 1) q w → Each s P n q w ⊎ P (n + z) q w
     split q w (i, l, t, x) = go (ltb i n) refl (eqb i (n + z)) refl
@@ -58,7 +61,8 @@ each-more s rest n z P b b′ b″ W L M = lowered-then (Each s P n) (P (n + z))
         go : (c : Bool) → ltb i n ≡ c → (d : Bool) → eqb i (n + z) ≡ d → Each s P n q w ⊎ P (n + z) q w
         go true e d f = inl (i, ltb-true i n e, t, x)
         go false e true f = inr (subst (λ (j : ℕ). P j q w) (eqb-true i (n + z) f) x)
-        go false e false f = let no = eqb-false i (n + z) f in let ge = ltb-false i n e in absurd (false≢true (sym (W .between i ge (let m : ¬ (n + z < i) = λ g. not-lt g in let ne : ¬ (i ≡ n + z) = no in omega arith)) ∙ t))
+        go false e false f = let no = eqb-false i (n + z) f in let ge = ltb-false i n e in absurd
+            (false≢true (sym (W .between i ge (let m : ¬ (n + z < i) = λ g. not-lt g in let ne : ¬ (i ≡ n + z) = no in omega arith)) ∙ t))
           where
             not-lt : n + z < i → ⊥
             not-lt g = omega arith
@@ -92,14 +96,21 @@ lower-down w q b e h l = record { size = length-set b q w ∙ e; keeps = λ j m.
     cm j false f = inl (getD-set-other b q j w 0 (eqb-false j q f))
 
 pub lower-not : (w q : ℕ) (b : List ℕ) → length b ≡ 32 → getD b q 0 ≤ w → Lowered (One w q) b b
-lower-not w q b e l = record { size = e; keeps = λ j m. le-refl _; takes = λ j x m (f, g). subst (λ (i : ℕ). getD b i 0 ≤ x) (sym f) (omega arith); comes = λ j m. inl refl }
+lower-not w q b e l = record {
+  size = e;
+  keeps = λ j m. le-refl _;
+  takes = λ j x m (f, g). subst (λ (i : ℕ). getD b i 0 ≤ x) (sym f)
+      (omega arith);
+  comes = λ j m. inl refl;
+}
 
 -- a loop over numbers
 pub between-none : (a : ℕ) (P : ℕ → ℕ → ℕ → Type 0) (b : List ℕ) → length b ≡ 32 → Lowered (Between a P a) b b
 between-none a P b e = lowered-none (Between a P a) b e (λ q w x. let (i, l, m, y) = x in omega arith)
 
 pub between-more : (a n : ℕ) (P : ℕ → ℕ → ℕ → Type 0) (b b′ b″ : List ℕ) → a ≤ n → Lowered (Between a P n) b b′ → Lowered (P n) b′ b″ → Lowered (Between a P (n + 1)) b b″
-between-more a n P b b′ b″ l L M = lowered-then (Between a P n) (P n) (Between a P (n + 1)) b b′ b″ L M split (λ q w x. (x .0, x .1, omega (arith, x .2), x .3)) (λ q w x. (n, l, omega arith, x))
+between-more a n P b b′ b″ l L M = lowered-then (Between a P n) (P n) (Between a P (n + 1)) b b′ b″ L M split
+    (λ q w x. (x .0, x .1, omega (arith, x .2), x .3)) (λ q w x. (n, l, omega arith, x))
   where
     split : (q w : ℕ) → Between a P (n + 1) q w → Between a P n q w ⊎ P n q w
     split q w (i, k, m, x) = go (ltb i n) refl

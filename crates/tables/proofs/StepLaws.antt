@@ -161,7 +161,13 @@ pub record UpTo (T S f k t : List ℕ) (j : ℕ) : Type 0 where
 
 pub up-to-none : (T S f k t : List ℕ) → Clear T 1024 → Clear S 32 → UpTo T S f k t 0
 unfolding anyBelow
-up-to-none T S f k t z s = record { size = z .size; sources = s .size; says = λ a p q _ _. empty a p q; covers = λ a p q _ _ y. absurd (false≢true (sym (empty a p q) ∙ y)) }
+up-to-none T S f k t z s = record {
+  size = z .size;
+  sources = s .size;
+  says = λ a p q _ _. empty a p q;
+  covers = λ a p q _ _ y. absurd
+      (false≢true (sym (empty a p q) ∙ y));
+}
   where
     empty : (a p q : ℕ) → has (getD T (a * 32 + p) 0) q ≡ false
     empty a p q = ap (λ (n : ℕ). has n q) (z .zero (a * 32 + p)) ∙ has-none q

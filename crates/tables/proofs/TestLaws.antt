@@ -50,7 +50,8 @@ tie-law N e = (
 
 module _ (c : lent.Condition) (n : ℕ) (f k t : List ℕ) where
   pub states-law : (badStates (conditionOf c (movesOf n f k t)) ≡ false)
-      ↔ ((1 ≤ c .states) × (c .states ≤ ceilings .states) × (n ≤ ceilings .moves) × (onlyBelow (c .states) (c .start) ≡ true) × (onlyBelow (c .states) (c .accept) ≡ true))
+      ↔ ((1 ≤ c .states) × (c .states ≤ ceilings .states) × (n ≤ ceilings .moves) × (onlyBelow (c .states) (c .start) ≡ true) ×
+      (onlyBelow (c .states) (c .accept) ≡ true))
   unfolding badStates
   states-law =
       let l : length (movesOf n f k t) ≡ n = length-table n _ in (

@@ -75,7 +75,8 @@ refused-answers w d [] n p h = clash (cc)
 refused-answers {A} {B} w d (x ∷ l) n p h = go (x .given) refl (λ k. refused-answers w d l n p k)
   where
     go : (t : Bool) → x .given ≡ t → (firstGiven l ≡ Refused n p → judged l w d ≡ record { answer = refused (number n) p; left = w })
-        → _≡_ {A = Done A B} (elim t [ true ↦ record { answer = refused (number (x .name)) (x .place); left = w } | false ↦ judged l w d ]) (record { answer = refused (number n) p; left = w })
+        → _≡_ {A = Done A B} (elim t [ true ↦ record { answer = refused (number (x .name)) (x .place); left = w } | false ↦ judged l w d ])
+        (record { answer = refused (number n) p; left = w })
     go true e ih =
         let q = row-answers x l (sym h) refl e in
         let a : x .name ≡ n = cc in

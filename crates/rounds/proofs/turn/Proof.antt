@@ -20,11 +20,13 @@ abbrev start : tie.After-pairs → tie.Start
 start p = p .before .before .before .before .before
 
 -- the count is at most V×Q
-bound : (c : tie.Else1) → (start (c .before) .args .done ≤ start (c .before) .args .network .marks * start (c .before) .args .condition .states) × (start (c .before) .args .done ≤ 32768)
+bound : (c : tie.Else1) → (start (c .before) .args .done ≤ start (c .before) .args .network .marks * start (c .before) .args .condition .states) ×
+    (start (c .before) .args .done ≤ 32768)
 bound c = let (e, l) = c .before .pairs .ensures in let h = c .if1 .left in (omega arith, omega arith)
 
 -- the area is the right one
-is-right : (c : tie.Else2) → let A = start (c .before .before .before .before) .args in IsRight (A .network) (A .condition) (A .ask) (A .from .now) (A .to .now) (A .kinds .now) (A .table .now) (A .done) (A .area .now)
+is-right : (c : tie.Else2) → let A = start (c .before .before .before .before) .args in IsRight (A .network) (A .condition) (A .ask) (A .from .now)
+    (A .to .now) (A .kinds .now) (A .table .now) (A .done) (A .area .now)
 is-right c m tab acc = c .before .right .ensures m tab acc .0 (not-false _ (c .if2 .left))
 
 -- the status is that of the definition
@@ -34,7 +36,8 @@ stands-so c m tab acc =
     let e = c .before .before .before in
     let S = start (e .before .before .before .before) in
     c .status .ensures
-    ∙ standing-is (question (S .args .network) (S .args .condition) (S .args .ask) (S .args .from .now) (S .args .to .now) (S .args .kinds .now) m) (S .args .done) (S .args .area .now) (is-right e m tab acc) (S .pre .0 .size .room)
+    ∙ standing-is (question (S .args .network) (S .args .condition) (S .args .ask) (S .args .from .now) (S .args .to .now) (S .args .kinds .now) m)
+    (S .args .done) (S .args .area .now) (is-right e m tab acc) (S .pre .0 .size .room)
     (c .before .before .tested .result .0) (c .before .before .tested .ensures .is) (S .pre .2)
 
 pairs-requires : tie.Need-pairs-requires
@@ -78,7 +81,8 @@ returns-3 : tie.Need-returns-3
 returns-3 c m tab acc =
     let s = c .before .before in
     let e = s .before .before .before in
-    turned-stays _ _ _ (bound (e .before .before .before) .0) (is-right e m tab acc) (s .status .result) (stands-so s m tab acc) (sym (c .before .going .ensures) ∙ not-true _ (c .if3 .taken))
+    turned-stays _ _ _ (bound (e .before .before .before) .0) (is-right e m tab acc) (s .status .result) (stands-so s m tab acc)
+    (sym (c .before .going .ensures) ∙ not-true _ (c .if3 .taken))
 
 advance-requires : tie.Need-advance-requires
 advance-requires c κs =
@@ -118,9 +122,11 @@ returns-4 c m tab acc =
     let A′ = v .advance .last .1 .1 .1 .1 .1 .1 .1 .1 .1 .1 .0 in
     let k = v .advance .kept .1 .1 .1 .1 .1 .1 .1 .1 .1 .1 .0 in
     let right′ : take (pairs D) A′ ≡ right D (A .done + 1) = rw add-one (in-front D (suc (A .done)) (A .area .now) A′ (v .advance .ensures m tab acc)) in
-    turned-goes D (A .area .now) (A .done) (bound (e .before .before .before) .0) (is-right e m tab acc) (s .status .result) (c .status2 .result) A′ (stands-so s m tab acc)
+    turned-goes D (A .area .now) (A .done) (bound (e .before .before .before) .0) (is-right e m tab acc) (s .status .result) (c .status2 .result) A′
+    (stands-so s m tab acc)
     (sym (g .going .ensures) ∙ not-false _ (v .before .before .if3 .left))
-    (c .status2 .ensures ∙ standing-is D (A .done + 1) A′ right′ (omega (arith, S .pre .0 .size .room)) (s .before .before .tested .result .0) (s .before .before .tested .ensures .is) (S .pre .2))
+    (c .status2 .ensures ∙ standing-is D (A .done + 1) A′ right′ (omega (arith, S .pre .0 .size .room)) (s .before .before .tested .result .0)
+    (s .before .before .tested .ensures .is) (S .pre .2))
     (v .advance .ensures m tab acc)
 
 pub turn-spec : {M : Type 1} → statement M

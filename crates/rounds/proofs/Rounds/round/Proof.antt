@@ -30,7 +30,8 @@ passed : (c : tie.After-enum-told) → firstGiven (start-tests (asked (c .before
 passed c = sym (c .before .before .tested .ensures) ∙ c .enum-told .given .1
 
 -- the other columns are as long as the first
-columns : (c : tie.After-enum-told) → let A = start (c .before .before) .args in (length (A .from .now) ≡ length (A .to .now)) × (length (A .from .now) ≡ length (A .kinds .now))
+columns : (c : tie.After-enum-told) → let A = start (c .before .before) .args in (length (A .from .now) ≡ length (A .to .now)) ×
+    (length (A .from .now) ≡ length (A .kinds .now))
 columns c = let S = accepted _ _ (passed c) .0 .sizes .columns in (sym (S .0), sym (S .1))
 
 tested-requires : tie.Need-tested-requires
@@ -106,7 +107,9 @@ returns-2 c =
     let (f, g) = columns e in
     let (a, room) = accepted _ _ (passed e) in
     round-passed _ _ _ _ _ (passed e)
-    (turns-cut (cut-all (A .from .now) _ refl) (cut-all (A .to .now) _ f) (cut-all (A .kinds .now) _ g) (A .ask) (i .fill .last .0) (A .area .now) (t .turn .last .1 .1 .1 .1 .1 .1 .1 .1 .1 .1 .0) (A .self .done) (t .turn .result) (t .turn .ensures) (movesOf (A .moves) (A .movefrom .now) (A .movekind .now) (A .moveto .now)) (i .fill .ensures .tabled) a)
+    (turns-cut (cut-all (A .from .now) _ refl) (cut-all (A .to .now) _ f) (cut-all (A .kinds .now) _ g) (A .ask) (i .fill .last .0) (A .area .now)
+    (t .turn .last .1 .1 .1 .1 .1 .1 .1 .1 .1 .1 .0) (A .self .done) (t .turn .result) (t .turn .ensures)
+    (movesOf (A .moves) (A .movefrom .now) (A .movekind .now) (A .moveto .now)) (i .fill .ensures .tabled) a)
 
 pub round-spec : {M : Type 1} → statement M
 round-spec =

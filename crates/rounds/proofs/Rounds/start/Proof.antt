@@ -77,7 +77,8 @@ returns-2 c =
     let k = o .open .kept .0 in
     let w = begun D (A .area .now) A′ (o .before .tested2 .result .0) a (o .before .tested2 .ensures .is) room (o .open .ensures) in
     start-passed D (A .area .now) (c .status .result) A′ (passed e)
-    (c .status .ensures ∙ standing-is D 0 A′ (in-front D 0 (A .area .now) A′ w) (omega (arith, room)) (c .before .tested3 .result .0) (c .before .tested3 .ensures .is) (a .ends .1)) w
+    (c .status .ensures ∙ standing-is D 0 A′ (in-front D 0 (A .area .now) A′ w) (omega (arith, room)) (c .before .tested3 .result .0)
+    (c .before .tested3 .ensures .is) (a .ends .1)) w
 
 pub start-spec : {M : Type 1} → statement M
 start-spec =

@@ -28,7 +28,8 @@ abbrev μ-loop : tie.MeasureT-loop
 abbrev start : tie.At-loop Inv-loop μ-loop → tie.Start Inv-loop μ-loop
 start l = l .before .before .before .before .before .before .before .before
 
-cut-after : (c : tie.After-end Inv-loop μ-loop) → Cut (start (c .before .before .before .before) .args .to .now) (start (c .before .before .before .before) .args .ties) (suc (c .before .before .before .before .loop .v)) (c .end .result)
+cut-after : (c : tie.After-end Inv-loop μ-loop) → Cut (start (c .before .before .before .before) .args .to .now)
+    (start (c .before .before .before .before) .args .ties) (suc (c .before .before .before .before .loop .v)) (c .end .result)
 cut-after c =
     let l = c .before .before .before .before in
     subst (λ (k : ℕ). Cut (start l .args .to .now) (start l .args .ties) (suc k) (c .end .result)) (c .before .tested .ensures .is) (c .end .ensures .0)
@@ -41,7 +42,8 @@ below : (c : tie.After-slice-known2 Inv-loop μ-loop) → loop′ c .loop .v < s
 below c = c .before .before .before .before .before .before .before .before .before .before .before .before .before .before .if1 .taken
 
 -- the row of v begins at v×Q
-placed : (c : tie.After-place Inv-loop μ-loop) → c .place .result ≡ c .before .before .before .before .before .loop .v * start (c .before .before .before .before .before) .args .condition .states
+placed : (c : tie.After-place Inv-loop μ-loop) → c .place .result ≡ c .before .before .before .before .before .loop .v * start
+    (c .before .before .before .before .before) .args .condition .states
 placed c = c .place .ensures .0 ∙ ap (λ (k : ℕ). k * start (c .before .before .before .before .before) .args .condition .states) (c .before .before .tested .ensures .is)
 
 add-fill : tie.Need-add-fill Inv-loop μ-loop
@@ -90,7 +92,8 @@ into-requires c κs =
       c .before .before .before .fetch .ensures .size,
       record { few = S .few; kinds-few = S .kinds-few; narrow = S .narrow; room = omega (arith, S .room, l .loop .inv .2) },
       P .0 .columns,
-      sofar-living (A .network) (A .condition) (A .ask) (A .from .now) (A .to .now) (A .kinds .now) (A .table .now) (A .area .now) (A .r) (l .before .fill .last .0) (l .loop .area) (l .loop .v) (let h = P .1 in omega arith) (l .before .fill .ensures) (l .loop .inv .3 (A .ask) (P .2)),
+      sofar-living (A .network) (A .condition) (A .ask) (A .from .now) (A .to .now) (A .kinds .now) (A .table .now) (A .area .now) (A .r)
+          (l .before .fill .last .0) (l .loop .area) (l .loop .v) (let h = P .1 in omega arith) (l .before .fill .ensures) (l .loop .inv .3 (A .ask) (P .2)),
       P .0 .leads .narrow,
     )
 
@@ -129,8 +132,10 @@ loop-again c =
       omega arith,
       rw add-one (cut-after (p .before)),
       put .size ∙ l .loop .inv .2,
-      λ a e. sofar-more (A .network) (A .condition) a (A .from .now) (A .to .now) (A .kinds .now) (A .table .now) (A .area .now) (A .r) (P .0 .size) (let few = P .1 in omega arith) e
-          (A .sources .now) (l .before .fill .last .0) (A .ties) (l .loop .v) (l .loop .first) (p .before .end .result) (l .loop .area) (w .write .last .0) (f .fetch .result) (i .into .last .0)
+      λ a e. sofar-more (A .network) (A .condition) a (A .from .now) (A .to .now) (A .kinds .now) (A .table .now) (A .area .now) (A .r) (P .0 .size)
+          (let few = P .1 in omega arith) e
+          (A .sources .now) (l .before .fill .last .0) (A .ties) (l .loop .v) (l .loop .first) (p .before .end .result) (l .loop .area)
+          (w .write .last .0) (f .fetch .result) (i .into .last .0)
           (P .0 .leads) (l .before .fill .ensures) (P .0 .columns .froms) h (l .loop .inv .1) (cut-after (p .before)) row (i .into .ensures) put (l .loop .inv .3 a e),
     )
 
@@ -143,7 +148,8 @@ returns c =
     let A = start l .args in
     let P = start l .pre in
     let done : l .loop .v ≡ A .network .marks = omega arith in
-    sofar-all (A .network) (A .condition) (A .ask) (A .from .now) (A .to .now) (A .kinds .now) (A .table .now) (A .area .now) (A .r) (P .0 .size) (let h = P .1 in omega arith) (P .2) (l .loop .v) (l .loop .area) done (l .loop .inv .3 (A .ask) (P .2))
+    sofar-all (A .network) (A .condition) (A .ask) (A .from .now) (A .to .now) (A .kinds .now) (A .table .now) (A .area .now) (A .r) (P .0 .size)
+    (let h = P .1 in omega arith) (P .2) (l .loop .v) (l .loop .area) done (l .loop .inv .3 (A .ask) (P .2))
 
 pub advance-spec : {M : Type 1} → statement M
 advance-spec =

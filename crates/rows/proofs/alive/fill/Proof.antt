@@ -79,7 +79,8 @@ loop-again c =
     let S = L .before .before in (
       omega arith,
       simp length-set (I .1),
-      alive-more (L .loop .live) _ _ _ _ _ (S .args .lo) (S .args .hi) _ (I .1) (T .loop-test .taken) (S .pre .0) (S .pre .2) (part P) (rw (size P) (c .of-row .ensures)) (I .2),
+      alive-more (L .loop .live) _ _ _ _ _ (S .args .lo) (S .args .hi) _ (I .1) (T .loop-test .taken) (S .pre .0) (S .pre .2) (part P)
+          (rw (size P) (c .of-row .ensures)) (I .2),
     )
 
 returns : tie.Need-returns Inv-loop μ-loop

@@ -80,7 +80,8 @@ loop-again c =
       c .above .ensures ∙ W L .left,
       each-more _ _ _ _ offers _ _ _ (W L) (at .loop .inv .2)
           (lowered-at offers (T .tested .ensures .is)
-          (lowered-at (λ (i : ℕ). ByKind (a .table .now) (a .words .now) (bitAnd (a .live) (getD (a .sources .now) i 0)) (T .tested .result .0)) (I .index .ensures) (c .before .by-kind .ensures))),
+          (lowered-at (λ (i : ℕ). ByKind (a .table .now) (a .words .now) (bitAnd (a .live) (getD (a .sources .now) i 0)) (T .tested .result .0))
+          (I .index .ensures) (c .before .by-kind .ensures))),
     )
 
 returns : tie.Need-returns Inv-loop μ-loop

@@ -17,8 +17,12 @@ abbrev μ-loop : tie.MeasureT-loop
 loop-holds : tie.Need-loop-holds Inv-loop μ-loop
 loop-holds c =
     let S = c .before .before .before in
-    let a = S .args in
-    (omega arith, S .pre .0, between-none _ (OfTie (a .table .now) (a .sources .now) (a .live .now) (a .area .now) (a .states) (a .from .now) (a .sets .now)) _ (S .pre .2))
+    let a = S .args in (
+      omega arith,
+      S .pre .0,
+      between-none _ (OfTie (a .table .now) (a .sources .now) (a .live .now) (a .area .now) (a .states) (a .from .now)
+          (a .sets .now)) _ (S .pre .2),
+    )
 
 tested-requires : tie.Need-tested-requires Inv-loop μ-loop
 tested-requires c κs = omega arith
@@ -39,15 +43,20 @@ loop-again : tie.Need-loop-again Inv-loop μ-loop
 loop-again c =
     let at = c .before .before .before .before in
     let a = at .before .before .before .before .args in
-    let offers = OfTie (a .table .now) (a .sources .now) (a .live .now) (a .area .now) (a .states) (a .from .now) (a .sets .now) in
-    (omega arith, omega arith, between-more _ _ offers _ _ _ (at .loop .inv .0) (at .loop .inv .2) (lowered-at offers (c .before .tested .ensures .is) (c .of-tie .ensures)))
+    let offers = OfTie (a .table .now) (a .sources .now) (a .live .now) (a .area .now) (a .states) (a .from .now) (a .sets .now) in (
+      omega arith,
+      omega arith,
+      between-more _ _ offers _ _ _ (at .loop .inv .0) (at .loop .inv .2)
+          (lowered-at offers (c .before .tested .ensures .is) (c .of-tie .ensures)),
+    )
 
 returns : tie.Need-returns Inv-loop μ-loop
 returns c =
     let at = c .before in
     let a = at .before .before .before .before .args in
     let last : at .loop .e ≡ a .end = omega arith in
-    lowered-at (Between (a .first) (OfTie (a .table .now) (a .sources .now) (a .live .now) (a .area .now) (a .states) (a .from .now) (a .sets .now))) last (at .loop .inv .2)
+    lowered-at (Between (a .first) (OfTie (a .table .now) (a .sources .now) (a .live .now) (a .area .now) (a .states) (a .from .now)
+    (a .sets .now))) last (at .loop .inv .2)
 
 pub into-spec : {M : Type 1} → statement M
 into-spec =

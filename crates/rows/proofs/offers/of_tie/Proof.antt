@@ -88,7 +88,8 @@ returns-2 c =
     let at = K .before .before .before in
     let I = at .before .before .before in
     let a = I .before .before .before .before .before .args in
-    along-as (a .table .now) (a .sources .now) (part at (getD (a .from .now) (a .e .0) 0) (I .before .leaves .ensures .is)) (alive I) (K .kinds .ensures) (c .along .ensures)
+    along-as (a .table .now) (a .sources .now) (part at (getD (a .from .now) (a .e .0) 0) (I .before .leaves .ensures .is)) (alive I)
+    (K .kinds .ensures) (c .along .ensures)
 
 pub of-tie-spec : {M : Type 1} → statement M
 of-tie-spec =

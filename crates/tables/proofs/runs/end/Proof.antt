@@ -50,8 +50,12 @@ loop-less c = omega arith
 
 loop-again : tie.Need-loop-again Inv-loop μ-loop
 loop-again c =
-    let L = c .before .before .before .before .before .before in
-    (omega arith, omega arith, below-more (λ i. getD (L .before .before .args .to .now) i 0 ≤ L .before .before .args .v .0) (L .loop .e) (L .loop .inv .2) (omega (arith, to-is (c .before .before .before))))
+    let L = c .before .before .before .before .before .before in (
+      omega arith,
+      omega arith,
+      below-more (λ i. getD (L .before .before .args .to .now) i 0 ≤ L .before .before .args .v .0) (L .loop .e)
+          (L .loop .inv .2) (omega (arith, to-is (c .before .before .before))),
+    )
 
 returns-2 : tie.Need-returns-2 Inv-loop μ-loop
 returns-2 c =

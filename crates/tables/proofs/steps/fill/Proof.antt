@@ -47,7 +47,8 @@ loop-again c =
     let L = P .before .before .before in
     let R = L .before .pre .2 in (
       omega arith,
-      up-to-more _ _ _ _ _ _ _ _ _ _ _ (P .fetched .ensures .is) (K .fetched2 .ensures .is) (Q .fetched3 .ensures .is) (omega (arith, P .fetched .ensures .below, R .states))
+      up-to-more _ _ _ _ _ _ _ _ _ _ _ (P .fetched .ensures .is) (K .fetched2 .ensures .is) (Q .fetched3 .ensures .is)
+          (omega (arith, P .fetched .ensures .below, R .states))
           (omega (arith, K .fetched2 .ensures .below, R .kinds)) (c .put .ensures .0) (c .put .ensures .1) (L .loop .inv .1),
     )
 

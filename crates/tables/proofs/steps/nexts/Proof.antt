@@ -68,8 +68,12 @@ loop-again c =
     let L = I .before .before .before in
     let at = L .before .before .loop in
     let S = L .before .before .before .args in
-    let e : I .before .index .result * 32 + I .index2 .result ≡ (at .n + L .lowest .result) * 32 + S .p .0 = cc in
-    (omega (arith, W L .below), c .above .ensures ∙ W L .left, λ q. ap (λ (i : ℕ). has (bitOr (at .all) (getD (S .table .now) i 0)) q) e ∙ next-more (S .table .now) _ _ _ _ _ _ (W L) (at .inv .2) q)
+    let e : I .before .index .result * 32 + I .index2 .result ≡ (at .n + L .lowest .result) * 32 + S .p .0 = cc in (
+      omega (arith, W L .below),
+      c .above .ensures ∙ W L .left,
+      λ q. ap (λ (i : ℕ). has (bitOr (at .all) (getD (S .table .now) i 0)) q) e ∙ next-more
+          (S .table .now) _ _ _ _ _ _ (W L) (at .inv .2) q,
+    )
 
 returns : tie.Need-returns Inv-loop μ-loop
 returns c = next-end _ _ _ _ _ (c .before .loop .inv .0) (sym (c .loop-test .left) ∙ c .before .loop .inv .1) (c .before .loop .inv .2)

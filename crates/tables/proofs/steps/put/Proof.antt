@@ -58,8 +58,11 @@ returns c =
     let W = c .before .before .before in
     let I = W .before .before .before in
     let S = I .before .before .args in
-    let at = ap₂ (λ (k p : ℕ). k * 32 + p) (I .before .index .ensures) (I .index2 .ensures) in
-    (put-is (S .table .now) at (W .before .index3 .ensures) (W .with .ensures), put-is (S .sources .now) (I .before .index .ensures) (c .before .index4 .ensures) (c .with2 .ensures))
+    let at = ap₂ (λ (k p : ℕ). k * 32 + p) (I .before .index .ensures) (I .index2 .ensures) in (
+      put-is (S .table .now) at (W .before .index3 .ensures) (W .with .ensures),
+      put-is (S .sources .now) (I .before .index .ensures)
+          (c .before .index4 .ensures) (c .with2 .ensures),
+    )
 
 pub put-spec : {M : Type 1} → statement M
 put-spec =

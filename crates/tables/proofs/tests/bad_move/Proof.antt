@@ -20,7 +20,8 @@ abbrev Law : tie.Start → Type 0
 Law s =
     let a = s .args in
     (badMoveAt (a .kinds) (conditionOf (a .condition) (movesOf (a .moves) (a .movefrom .now) (a .movekind .now) (a .moveto .now))) (a .j) ≡ false)
-    ↔ ((getD (a .movefrom .now) (a .j) 0 < a .condition .states) × (getD (a .movekind .now) (a .j) 0 < a .kinds) × (getD (a .moveto .now) (a .j) 0 < a .condition .states))
+    ↔ ((getD (a .movefrom .now) (a .j) 0 < a .condition .states) × (getD (a .movekind .now) (a .j) 0 < a .kinds) ×
+    (getD (a .moveto .now) (a .j) 0 < a .condition .states))
 
 law : (s : tie.Start) → Law s
 law s = let a = s .args in move-law (a .condition) (a .moves) (a .movefrom .now) (a .movekind .now) (a .moveto .now) (a .kinds) (a .j) (s .pre .0)

@@ -40,7 +40,14 @@ returns-5 c f k t =
     let a = c .before .before .before .before .before .before .args in
     let S = states-law (a .condition) (a .moves) f k t in
     pass-together
-    (λ h. S .1 (omega arith, omega arith, omega arith, sym (c .before .before .only-below .ensures) ∙ not-false _ (c .before .if4 .left), sym (c .only-below2 .ensures) ∙ not-false _ h))
+    (λ h. S .1 (
+      omega arith,
+      omega arith,
+      omega arith,
+      sym (c .before .before .only-below .ensures) ∙ not-false _ (c .before .if4 .left),
+      sym
+          (c .only-below2 .ensures) ∙ not-false _ h,
+    ))
     (λ e. ap not (c .only-below2 .ensures ∙ S .0 e .4))
 
 pub bad-states-spec : {M : Type 1} → statement M

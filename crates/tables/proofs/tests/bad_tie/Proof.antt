@@ -32,7 +32,8 @@ only-below-requires c κs = search needs
 
 returns-3 : tie.Need-returns-3
 returns-3 c =
-    pass-together (λ h. tie-law _ _ .1 (omega arith, omega arith, sym (c .only-below .ensures) ∙ not-false _ h)) (λ e. ap not (c .only-below .ensures ∙ tie-law _ _ .0 e .2))
+    pass-together (λ h. tie-law _ _ .1 (omega arith, omega arith, sym (c .only-below .ensures) ∙ not-false _ h))
+    (λ e. ap not (c .only-below .ensures ∙ tie-law _ _ .0 e .2))
 
 pub bad-tie-spec : {M : Type 1} → statement M
 bad-tie-spec =

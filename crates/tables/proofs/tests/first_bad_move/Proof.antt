@@ -10,7 +10,8 @@ use Rattle.tables.proofs.tests.first_bad_move.Statement.{statement}
 use Rattle.tables.proofs.tests.first_bad_move.Tie as tie
 
 abbrev Inv-loop : tie.InvT-loop
-Inv-loop kinds condition moves movefrom movekind moveto j₀ j = (j ≤ moves) × NoneBefore (badMoveAt kinds (conditionOf condition (movesOf moves movefrom movekind moveto))) j
+Inv-loop kinds condition moves movefrom movekind moveto j₀ j = (j ≤ moves) × NoneBefore
+    (badMoveAt kinds (conditionOf condition (movesOf moves movefrom movekind moveto))) j
 
 abbrev μ-loop : tie.MeasureT-loop
 μ-loop kinds condition moves movefrom movekind moveto j₀ j = moves - j
