@@ -3,9 +3,8 @@
 use Prim.Native.Nat.{ℕ, suc, _+_, _≤_}
 use mathlib.Core.Path.{_≡_, refl, sym, _∙_, ap}
 use mathlib.Core.Bool.{Bool, true, false, cond}
-use mathlib.Core.List.{List, [], _∷_, _++_, List·Memᴰ·head, List·Memᴰ·tail}
+use mathlib.Core.List.{List, _++_}
 use mathlib.Mathlib.Data.Bool.Basic.{eq-true-of-not-eq-false}
-use native.Mathlib.Omega.{arith}
 use native.Mathlib.Numerals.{add-one}
 use lib.ListN.{take, drop}
 use lib.Seq.{take-at}
@@ -13,37 +12,18 @@ use Rattle.walk.specs.declared.Refusal.{Refusal}
 use Rattle.walk.specs.declared.Refusal.the-variants.{WrongArea}
 use Rattle.walk.specs.declared.Status.{Status}
 use Rattle.walk.specs.Question.{Question, usable, pairs, right, status}
-use Rattle.walk.specs.Refusals.{Row, number, isGoing, wrongArea, start-tests, round-tests}
+use Rattle.walk.specs.Refusals.{number, isGoing, wrongArea, start-tests, round-tests}
 use Rattle.walk.specs.Calls.{Answer, refused, gives, Progress, Done, leave, judged, progress, prepared, start, round}
-use Rattle.walk.specs.Demands.{NoneGiven}
 use Rattle.walk.specs.Answers.{Meets}
 use Rattle.walk.proofs.Areas.{length-area}
 use Rattle.walk.proofs.Refusals.{judged-none, area-tested}
 use Rattle.tables.specs.declared.tests.Verdict.the-variants.{Passed, Refused}
 use Rattle.tables.specs.Tests.{firstGiven}
-use Rattle.tables.proofs.Verdicts.{refused-answers, passed-none}
+use Rattle.tables.proofs.Verdicts.{refused-answers, passed-none, given-before, judged-behind}
 use Rattle.rounds.specs.Judged.{turned}
 
 meets-as : {A B : Type 0} (d d′ : Done A B) (x : Answer A) (w : B) → d ≡ d′ → Meets d′ x w → Meets d x w
 meets-as d d′ x w e M = rw e M
-
--- rows put behind others
-given-before : (l k : List Row) (n : Refusal) (p : ℕ) → firstGiven l ≡ Refused n p → firstGiven (l ++ k) ≡ Refused n p
-unfolding firstGiven
-given-before [] k n p e = absurd (let z : _≡_ {A = ℕ} 0 1 = cc in omega arith)
-given-before (x ∷ l) k n p e = go (x .given) refl e (λ f. given-before l k n p f)
-  where
-    go : (t : Bool) → x .given ≡ t → elim t [ true ↦ Refused (x .name) (x .place) | false ↦ firstGiven l ] ≡ Refused n p
-        → (firstGiven l ≡ Refused n p → firstGiven (l ++ k) ≡ Refused n p)
-        → elim (x .given) [ true ↦ Refused (x .name) (x .place) | false ↦ firstGiven (l ++ k) ] ≡ Refused n p
-    go true g f ih = rw g f
-    go false g f ih = rw g (ih f)
-
-module _ {A B : Type 0} (w : B) (d : Done A B) where
-  judged-behind : (l k : List Row) → NoneGiven l → judged (l ++ k) w d ≡ judged k w d
-  unfolding judged
-  judged-behind [] k h = refl
-  judged-behind (x ∷ l) k h = rw (h x (List·Memᴰ·head refl)) (judged-behind l k (λ y m. h y (List·Memᴰ·tail m)))
 
 module _ (D : Question) (w : List ℕ) where
   -- the tests refuse

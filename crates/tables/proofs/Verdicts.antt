@@ -1,10 +1,10 @@
 -- The first row of a list that is given. A row that is not given leaves the answer to the rows after it, and a row that is given answers; a row
 -- that asks each of n places is given exactly where the least bad place is below n. What `firstGiven` refuses, `judged` refuses, and where it
--- passes no row is given.
+-- passes no row is given. Rows put behind others are reached only where none before them is given.
 use Prim.Native.Nat.{ℕ, _≤_, _<_}
 use mathlib.Core.Path.{_≡_, refl, sym, ap, _∙_}
 use mathlib.Core.Bool.{Bool, true, false}
-use mathlib.Core.List.{List, [], _∷_, List·Memᴰ·not-nil}
+use mathlib.Core.List.{List, [], _∷_, _++_, List·Memᴰ·head, List·Memᴰ·tail, List·Memᴰ·not-nil}
 use native.Mathlib.Omega.{arith}
 use borrow.Author.Tests.{lt-ltb, le-ltb}
 use Rattle.walk.specs.declared.Refusal.{Refusal}
@@ -92,3 +92,21 @@ passed-none (x ∷ l) h = go (x .given) refl (λ k. passed-none l k)
     go : (t : Bool) → x .given ≡ t → (firstGiven l ≡ Passed → NoneGiven l) → NoneGiven (x ∷ l)
     go true e ih = let q = row-answers x l (sym h) refl e in clash (cc)
     go false e ih = none-append (x ∷ []) l .1 (none-one x .1 e, ih (sym (row-passes x l (sym h) e)))
+
+-- rows put behind others
+pub given-before : (l k : List Row) (n : Refusal) (p : ℕ) → firstGiven l ≡ Refused n p → firstGiven (l ++ k) ≡ Refused n p
+unfolding firstGiven
+given-before [] k n p e = clash (cc)
+given-before (x ∷ l) k n p e = go (x .given) refl e (λ f. given-before l k n p f)
+  where
+    go : (t : Bool) → x .given ≡ t → elim t [ true ↦ Refused (x .name) (x .place) | false ↦ firstGiven l ] ≡ Refused n p
+        → (firstGiven l ≡ Refused n p → firstGiven (l ++ k) ≡ Refused n p)
+        → elim (x .given) [ true ↦ Refused (x .name) (x .place) | false ↦ firstGiven (l ++ k) ] ≡ Refused n p
+    go true g f ih = rw g f
+    go false g f ih = rw g (ih f)
+
+module _ {A B : Type 0} (w : B) (d : Done A B) where
+  pub judged-behind : (l k : List Row) → NoneGiven l → judged (l ++ k) w d ≡ judged k w d
+  unfolding judged
+  judged-behind [] k h = refl
+  judged-behind (x ∷ l) k h = rw (h x (List·Memᴰ·head refl)) (judged-behind l k (λ y m. h y (List·Memᴰ·tail m)))

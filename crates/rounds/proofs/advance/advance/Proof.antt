@@ -34,7 +34,7 @@ cut-after c =
     let l = c .before .before .before .before in
     subst (λ (k : ℕ). Cut (start l .args .to .now) (start l .args .ties) (suc k) (c .end .result)) (c .before .tested .ensures .is) (c .end .ensures .0)
 
--- the turn's loop, and its test
+-- the loop that a turn belongs to, and its test
 abbrev loop′ : tie.After-slice-known2 Inv-loop μ-loop → tie.At-loop Inv-loop μ-loop
 loop′ c = c .before .before .before .before .before .before .before .before .before .before .before .before .before .before .before .before
 

@@ -30,7 +30,7 @@ abbrev μ-loop : tie.MeasureT-loop
 abbrev start : tie.At-loop Inv-loop μ-loop → tie.Start Inv-loop μ-loop
 start l = l .before .before .before .before .before .before .before .before
 
--- the turn's part of the area, its row, and the cuts around its ties
+-- the loop that a turn belongs to
 abbrev loop′ : tie.After-row2 Inv-loop μ-loop → tie.At-loop Inv-loop μ-loop
 loop′ c = c .before .before .before .before .before .before .before .before .before .before .before
 
