@@ -16,7 +16,7 @@ TRIALS = [
     ("a mark for a tie", "tables", "runs.rt", "Tie::tested(e, ties).enters(", "v.enters(", "no method named `enters` found for type `Mark`"),
     ("a kind for a state", "tables", "steps.rt", "put(table, sources, p, k, q)", "put(table, sources, k, k, q)", "expected `State`, found `Kind`"),
     ("a plain number for a state", "rows", "offers.rt", "lower(row, State::tested(n, states), w)", "lower(row, n, w)", "expected `State`, found `usize`"),
-    ("a mark made without its entry", "rounds", "trial.rt", "Mark::tested(v, network.marks)", "Mark(v)", "its constructor is private"),
+    ("a mark made without its entry", "rounds", "area.rt", "Mark::tested(v, network.marks)", "Mark(v)", "its constructor is private"),
 ]
 
 

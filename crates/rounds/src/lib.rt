@@ -1,9 +1,9 @@
-// Preparing by rounds: start and round. Refusals 1 to 7 are the tests of `tables`, refusal 8 is `trial::right`, and a round over a right area is
+// Preparing by rounds: start and round. Refusals 1 to 7 are the tests of `tables`, refusal 8 is `area::right`, and a round over a right area is
 // `advance::advance`.
 
 pub mod advance;
+pub mod area;
 pub mod status;
-pub mod trial;
 
 ghost use mathlib.Core.Path.{_≡_};
 ghost use Prim.Native.Nat.{_<_};
@@ -196,7 +196,7 @@ fn turn(
         return Prepared::Refused(Refusal::WrongArea, 0);
     }
     let r = done as u16;
-    if !trial::right(
+    if !area::right(
         network,
         condition,
         ask,

@@ -1,4 +1,4 @@
--- `rounds::trial::right` meets its contract. The invariant: the cursor stands where the ties into mark v begin, and the marks before v pass the local
+-- `rounds::area::right` meets its contract. The invariant: the cursor stands where the ties into mark v begin, and the marks before v pass the local
 -- test, whatever moves the table stands for.
 use Prim.Native.Nat.{ℕ, suc, _+_, _-_, _*_, _≤_, zero-le}
 use mathlib.Core.Path.{_≡_, refl, sym, _∙_, subst, ap}
@@ -15,8 +15,8 @@ use Rattle.rounds.specs.Judged.{Tells}
 use Rattle.rows.proofs.RowLaws.{row-is, row-length}
 use Rattle.rows.proofs.AliveLaws.{alive-living}
 use Rattle.rounds.proofs.Judging.{Passed, passed-none, compared, passed-all}
-use Rattle.rounds.proofs.trial.right.Statement.{statement}
-use Rattle.rounds.proofs.trial.right.Tie as tie
+use Rattle.rounds.proofs.area.right.Statement.{statement}
+use Rattle.rounds.proofs.area.right.Tie as tie
 
 abbrev Inv-loop : tie.InvT-loop
 Inv-loop network condition r ties from to kinds table sources area states s live first₀ v₀ first v =
