@@ -101,7 +101,8 @@ def padded_moves(moves):
 
 def unpacked(said, room):
     kind, number, low, high, *rest = struct.unpack("<48H", said)
-    answer = ("refused", number, low) if kind == 0 else ("after", low + 65536 * high, (STATUS[kind],) + ((number,) if kind == 1 else ()))
+    long = low + 65536 * high
+    answer = ("refused", number, long) if kind == 0 else ("after", long, (STATUS[kind],) + ((number,) if kind == 1 else ()))
     return answer, list(rest[4:4 + room])
 
 

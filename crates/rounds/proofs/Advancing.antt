@@ -20,10 +20,9 @@ use Rattle.walk.specs.Area.{word}
 use Rattle.walk.specs.Question.{Question, usable, right}
 use Rattle.walk.specs.Demands.{Accepted}
 use Rattle.walk.specs.Answers.{question}
-use Rattle.walk.proofs.Executable.{Sound, arc-in}
+use Rattle.walk.proofs.Executable.{arc-in}
 use Rattle.walk.proofs.Words.{unreached, Right, comes, comes-in, comes-of, word-is, word-suc}
 use Rattle.walk.proofs.Areas.{area-right}
-use Rattle.walk.proofs.Refusals.{ready}
 use Rattle.tables.specs.Runs.{Cut}
 use Rattle.tables.specs.Steps.{Tabled, Leads}
 use Rattle.rows.specs.Rows.{Sized, Row, Put, Alive, between}
@@ -31,7 +30,7 @@ use Rattle.rows.specs.Offers.{Lowered, Between, OfTie, AllLiving}
 use Rattle.rounds.specs.Judged.{Every, IsRight, Advances}
 use Rattle.rows.proofs.RowLaws.{whole}
 use Rattle.rows.proofs.AliveLaws.{alive-in, between-yes, between-high, between-in}
-use Rattle.rounds.proofs.Offered.{at, From, offered}
+use Rattle.rounds.proofs.Offered.{sound, at, From, offered}
 
 module _ (n : network.Network) (c : condition.Condition) (a : Ask) (from to sets T A : List ℕ) (r : ℕ) where
   -- the marks before v are as one round more has them, and the rest is as it was; no word was raised
@@ -53,10 +52,6 @@ module _ (n : network.Network) (c : condition.Condition) (a : Ask) (from to sets
   module _ (size : Sized (n .marks) (n .kinds) (c .states) A) (few : suc r < 65535) (is-right : IsRight n c a from to sets T r A) where
     abbrev D : List Move → Question
     D m = question n c a from to sets m
-
-    sound : (m : List Move) → Accepted (D m) → Sound (D m .network) (D m .condition)
-    unfolding usable
-    sound m acc = ready (D m) acc .sound
 
     rightly : (m : List Move) → Tabled T (D m .condition) → Accepted (D m) → Right (D m .network) (D m .condition) (a .from) r (at (D m .condition) A)
     unfolding right usable
@@ -95,7 +90,7 @@ module _ (n : network.Network) (c : condition.Condition) (a : Ask) (from to sets
         -- the words that are r stand where they stood
         raised : (u q : ℕ) → between r (r + 1) (new u q) ≡ between r (r + 1) (old u q)
         unfolding old new
-        raised u q = ap (λ (k : ℕ). between r (r + 1) k) (word-suc (D m .network) (D m .condition) (a .from) (sound m acc) r u q few) ∙ go
+        raised u q = ap (λ (k : ℕ). between r (r + 1) k) (word-suc (D m .network) (D m .condition) (a .from) (sound (D m) acc) r u q few) ∙ go
             (leb (old u q) r) refl (comes (D m .network) (D m .condition) (a .from) old r u q)
           where
             go : (t : Bool) → leb (old u q) r ≡ t → (s : Bool) → between r (r + 1) (cond t (old u q) (cond s (suc r) unreached)) ≡ between r (r + 1) (old u q)
@@ -126,13 +121,13 @@ module _ (n : network.Network) (c : condition.Condition) (a : Ask) (from to sets
 
         arcs : Lowered (From (D m .network) (D m .condition) A′ r (r + 1) v) o b
         arcs =
-            offered (D m .network) (D m .condition) T S L A′ r (r + 1) (sound m acc) (size .kinds-few) (size .narrow) tab lead still v i z o b
+            offered (D m .network) (D m .condition) T S L A′ r (r + 1) (sound (D m) acc) (size .kinds-few) (size .narrow) tab lead still v i z o b
             (subst (λ (k : ℕ). Cut to k v i) (sym froms) cut) (subst (λ (k : ℕ). Cut to k (suc v) z) (sym froms) cut′) low
 
         written : (q : ℕ) → q < c .states → getD b q 0 ≡ new v q
         unfolding old new
         written q h = go (leb (old v q) r) refl (comes (D m .network) (D m .condition) (a .from) old r v q) refl ∙ sym
-            (word-suc (D m .network) (D m .condition) (a .from) (sound m acc) r v q few)
+            (word-suc (D m .network) (D m .condition) (a .from) (sound (D m) acc) r v q few)
           where
             nar : c .states ≤ 32
             nar = size .narrow
@@ -151,8 +146,8 @@ module _ (n : network.Network) (c : condition.Condition) (a : Ask) (from to sets
                 let w = was in
                 ⊎-elim (λ y. y ∙ was) (λ (u, p, y, l, l′, g). absurd (omega arith)) shape
             go false e true f =
-                let (u, p, x, w) = comes-in (D m .network) (D m .condition) (a .from) (sound m acc) old r v q f in
-                let (hu, hp, _, _) = arc-in (D m .network) (D m .condition) (sound m acc) u p v q x in
+                let (u, p, x, w) = comes-in (D m .network) (D m .condition) (a .from) (sound (D m) acc) old r v q f in
+                let (hu, hp, _, _) = arc-in (D m .network) (D m .condition) (sound (D m) acc) u p v q x in
                 let g : getD A (u * c .states + p) 0 ≡ r = rightly m tab acc u p hu hp ∙ w in
                 let (l, l′) = between-in r (r + 1) (getD A′ (u * c .states + p) 0) (sym (level u p hu hp) ∙ between-yes r (r + 1) _ (omega arith) (omega arith)) in
                 let k = arcs .takes q (suc (getD A′ (u * c .states + p) 0)) (omega arith) (u, p, x, l, l′, refl) in
@@ -169,10 +164,10 @@ module _ (n : network.Network) (c : condition.Condition) (a : Ask) (from to sets
                 (λ y. y ∙ was ∙ ⊎-elim (λ (g : old v q ≤ r). absurd (omega arith)) (λ g. g)
                 (word-is (D m .network) (D m .condition) (a .from) r v q (omega arith) .small))
                 (λ (u, p, y, l, l′, g).
-                (let (hu, hp, _, _) = arc-in (D m .network) (D m .condition) (sound m acc) u p v q y in
+                (let (hu, hp, _, _) = arc-in (D m .network) (D m .condition) (sound (D m) acc) u p v q y in
                 let (k, k′) = between-in r (r + 1) (getD A (u * c .states + p) 0) (level u p hu hp ∙ between-yes r (r + 1) _ l l′) in
                 let w : old u p ≡ r = sym (rightly m tab acc u p hu hp) ∙ (let x : getD A (u * c .states + p) 0 ≡ r = omega arith in x) in
-                absurd (false≢true (sym f ∙ comes-of (D m .network) (D m .condition) (a .from) (sound m acc) old r u p v q y w))))
+                absurd (false≢true (sym f ∙ comes-of (D m .network) (D m .condition) (a .from) (sound (D m) acc) old r u p v q y w))))
                 shape
 
         says : (u q : ℕ) → u < v + 1 → q < c .states → getD A″ (u * c .states + q) 0 ≡ word (D m .network) (D m .condition) (a .from) (suc r) u q

@@ -9,10 +9,9 @@ use Rattle.walk.specs.Question.{Question, usable, pairs, right}
 use Rattle.walk.specs.Demands.{Accepted}
 use Rattle.walk.proofs.Words.{Right, word-zero}
 use Rattle.walk.proofs.Areas.{area-right}
-use Rattle.walk.proofs.Refusals.{ready}
 use Rattle.rows.specs.Rows.{opening, RowsTo}
 use Rattle.rows.proofs.RowLaws.{whole}
-use Rattle.rounds.proofs.Offered.{at}
+use Rattle.rounds.proofs.Offered.{sound, at}
 
 pub begun : (D : Question) (A A′ : List ℕ) (s : ℕ) → Accepted D → s ≡ D .from → pairs D ≤ length A → RowsTo A A′ (D .condition .states)
     (D .network .marks) (opening s (D .condition .start))
@@ -24,4 +23,4 @@ begun D A A′ s acc e room R =
     words : Right (D .network) (D .condition) (D .from) 0 (at (D .condition) A′)
     words v q hv hq =
         R .before v q hv hq ∙ subst (λ (k : ℕ). opening k (D .condition .start) v q ≡ opening (D .from) (D .condition .start) v q) (sym e) refl
-        ∙ sym (word-zero (D .network) (D .condition) (D .from) (ready D acc .sound) v q)
+        ∙ sym (word-zero (D .network) (D .condition) (D .from) (sound D acc) v q)

@@ -24,14 +24,13 @@ use Rattle.walk.proofs.Numbers.{Yes, and-in, and-of, eqb-of, anyBelow-in, anyBe
 use Rattle.walk.proofs.Executable.{Sound, Arc, arc-in}
 use Rattle.walk.proofs.Words.{unreached, Local, local-law}
 use Rattle.walk.proofs.Areas.{area-right}
-use Rattle.walk.proofs.Refusals.{ready}
 use Rattle.tables.specs.Runs.{Cut}
 use Rattle.tables.specs.Steps.{Tabled, Leads}
 use Rattle.rows.specs.Rows.{row, Sized, opening, Row, differ, Alive}
 use Rattle.rows.specs.Offers.{Lowered, Between, OfTie}
 use Rattle.rounds.specs.Judged.{Every, Tells}
 use Rattle.rows.proofs.RowLaws.{row-at, row-length}
-use Rattle.rounds.proofs.Offered.{at, From, offered}
+use Rattle.rounds.proofs.Offered.{sound, at, From, offered}
 
 -- the local test of the definition, at mark v
 pub record At (N : Network) (C : Condition) (s r : ℕ) (A : List ℕ) (v : ℕ) : Type 0 where
@@ -156,20 +155,16 @@ module _ (n : network.Network) (c : condition.Condition) (a : Ask) (from to sets
     abbrev D : List Move → Question
     D m = question n c a from to sets m
 
-    sound : (m : List Move) → Accepted (D m) → Sound (D m .network) (D m .condition)
-    unfolding usable
-    sound m acc = ready (D m) acc .sound
-
     test : (m : List Move) → Accepted (D m) → Local (D m .network) (D m .condition) (a .from) r (at (D m .condition) A) ↔ (take (pairs (D m)) A ≡ right (D m) r)
     unfolding right usable
     test m acc =
         let R = area-right (D m .network) (D m .condition) (a .from) r A (size .room) in
-        let L = local-law (D m .network) (D m .condition) (a .from) r (sound m acc) few (at (D m .condition) A) in
+        let L = local-law (D m .network) (D m .condition) (a .from) r (sound (D m) acc) few (at (D m .condition) A) in
         (λ l. R .1 (L .0 l), λ e. L .1 (R .0 e))
 
     pub passed-all : (v : ℕ) → v ≡ n .marks → Passed v → Tells n c a from to sets T true r A
     passed-all v e P m tab acc =
-        (λ _. test m acc .0 (at-local (D m .network) (D m .condition) (a .from) r A (sound m acc) (λ u h. P m tab acc u (rw (← e) at h))), λ _. refl)
+        (λ _. test m acc .0 (at-local (D m .network) (D m .condition) (a .from) r A (sound (D m) acc) (λ u h. P m tab acc u (rw (← e) at h))), λ _. refl)
 
     module _ (S L : List ℕ) (ties : ℕ) (lead : Leads T S (c .states)) (liv : Alive L A (n .marks) (c .states) 0 r) (froms : length from ≡ ties)
         (v i z : ℕ) (o b W : List ℕ) (hv : v < n .marks)
@@ -177,7 +172,7 @@ module _ (n : network.Network) (c : condition.Condition) (a : Ask) (from to sets
         (low : Lowered (Between i (OfTie T S L A (c .states) from sets) z) o b) (eW : W ≡ row A (c .states) v) where
       arcs : (m : List Move) → Tabled T (D m .condition) → Accepted (D m) → Lowered (From (D m .network) (D m .condition) A 0 r v) o b
       arcs m tab acc =
-          offered (D m .network) (D m .condition) T S L A 0 r (sound m acc) (size .kinds-few) (size .narrow) tab lead liv v i z o b
+          offered (D m .network) (D m .condition) T S L A 0 r (sound (D m) acc) (size .kinds-few) (size .narrow) tab lead liv v i z o b
           (subst (λ (k : ℕ). Cut to k v i) (sym froms) cut) (subst (λ (k : ℕ). Cut to k (suc v) z) (sym froms) cut′) low
 
       in-row : (q : ℕ) → q < c .states → getD W q 0 ≡ getD A (v * c .states + q) 0
@@ -201,7 +196,7 @@ module _ (n : network.Network) (c : condition.Condition) (a : Ask) (from to sets
           by false f =
               let y : v ≡ u = omega (arith, ltb-false u v f) in
               subst (λ (k : ℕ). At (D m .network) (D m .condition) (a .from) r A k) y
-              (at-of (D m .network) (D m .condition) (a .from) r A (sound m acc) few (size .narrow) v o b op (arcs m tab acc) same)
+              (at-of (D m .network) (D m .condition) (a .from) r A (sound (D m) acc) few (size .narrow) v o b op (arcs m tab acc) same)
 
       passed-not : differ W b (length W) ≡ true → Tells n c a from to sets T false r A
       passed-not e m tab acc = (λ f. absurd (false≢true f), λ f. absurd (wrong f))
@@ -210,8 +205,8 @@ module _ (n : network.Network) (c : condition.Condition) (a : Ask) (from to sets
           wrong f =
               let (q, h, t) = anyBelow-in (length W) _ e in
               let k : q < c .states = omega (arith, wide) in
-              let M = local-at (D m .network) (D m .condition) (a .from) r A (sound m acc) (test m acc .1 f) v hv in
-              let g = at-is (D m .network) (D m .condition) (a .from) r A (sound m acc) few (size .narrow) v o b op (arcs m tab acc) M q k in
+              let M = local-at (D m .network) (D m .condition) (a .from) r A (sound (D m) acc) (test m acc .1 f) v hv in
+              let g = at-is (D m .network) (D m .condition) (a .from) r A (sound (D m) acc) few (size .narrow) v o b op (arcs m tab acc) M q k in
               eqb-false _ _ (not-true _ t) (in-row q k ∙ g)
 
       -- the comparison of the row answered x

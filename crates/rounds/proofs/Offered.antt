@@ -11,8 +11,11 @@ use borrow.Author.Tests.{lt-ltb}
 use Rattle.walk.specs.Numbers.{has}
 use Rattle.walk.specs.Network.{Network, ties, fromOf, toOf}
 use Rattle.walk.specs.Condition.{Condition, follows}
+use Rattle.walk.specs.Question.{Question, usable}
+use Rattle.walk.specs.Demands.{Accepted}
 use Rattle.walk.proofs.Numbers.{Yes, and-in, and-of}
 use Rattle.walk.proofs.Executable.{Sound, Arc, arc-in, leads-in, leads-of}
+use Rattle.walk.proofs.Refusals.{ready}
 use Rattle.tables.specs.Runs.{Cut}
 use Rattle.tables.specs.Steps.{Tabled, Leads}
 use Rattle.tables.proofs.SetLaws.{has-and}
@@ -21,6 +24,11 @@ use Rattle.rows.specs.Offers.{Lowered, Between, OfTie}
 use Rattle.rows.proofs.RowLaws.{row-at}
 use Rattle.rows.proofs.AliveLaws.{alive-in, between-yes}
 use Rattle.rows.proofs.Lowering.{lowered-as}
+
+-- over an accepted question all that is named is there
+pub sound : (D : Question) → Accepted D → Sound (D .network) (D .condition)
+unfolding usable
+sound D acc = ready D acc .sound
 
 -- the word of a pair
 abbrev pub at : Condition → List ℕ → ℕ → ℕ → ℕ

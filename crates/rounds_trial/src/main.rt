@@ -87,6 +87,7 @@ fn answer(said: &mut [u8; 96], p: Prepared) {
         Prepared::Refused(name, place) => {
             put(said, 1, number(name));
             put(said, 2, place);
+            put(said, 3, place / 65536);
         }
         Prepared::After(rounds, status) => {
             put(said, 2, rounds.done);

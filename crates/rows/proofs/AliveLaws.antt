@@ -1,7 +1,8 @@
--- The states alive: a set to which each state of a row is joined if its word passes, and such a set for each mark. The test X of a word is any test.
+-- The states alive: a set to which each state of a row is joined if its word lies in the range, and such a set for each mark. What is alive is a
+-- state of the condition, and reached.
 use Prim.Native.Nat.{ℕ, _+_, _*_, _^_, _≤_, _<_, zero-le}
 use mathlib.Core.Path.{_≡_, refl, sym, _∙_, ap}
-use mathlib.Core.Bool.{Bool, true, false, _||_}
+use mathlib.Core.Bool.{Bool, true, false, _||_, or-false}
 use mathlib.Core.List.{List}
 use native.Mathlib.Omega.{arith}
 use native.Mathlib.Nat.{not-suc-le-zero}
@@ -18,10 +19,6 @@ use Rattle.rows.specs.Rows.{row, between, Joined, AliveRow, Alive}
 use Rattle.rows.specs.Offers.{Living, AllLiving}
 use Rattle.rows.proofs.RowLaws.{row-at, row-length}
 
-or-false : (a b : Bool) → b ≡ false → (a || b) ≡ a
-or-false true b e = refl
-or-false false b e = e
-
 and-true : (a b : Bool) → b ≡ true → (a and b) ≡ a
 unfolding _and_
 and-true true b e = e
@@ -36,7 +33,7 @@ pub joined-yes : (x s p : ℕ) (t : Bool) → t ≡ true → x ≡ bitOr s (2 ^ 
 joined-yes x s p t e f q = ap (λ (n : ℕ). has n q) f ∙ has-or s (2 ^ p) q ∙ ap (λ (b : Bool). has s q || b) (one-is p q ∙ sym (and-true (eqb p q) t e))
 
 pub joined-no : (s p : ℕ) (t : Bool) → t ≡ false → Joined s s p t
-joined-no s p t e q = sym (or-false (has s q) (eqb p q and t) (and-false (eqb p q) t e))
+joined-no s p t e q = sym (ap (λ (b : Bool). has s q || b) (and-false (eqb p q) t e) ∙ or-false (has s q))
 
 -- the three ways of the range
 pub between-yes : (lo hi d : ℕ) → lo ≤ d → d < hi → between lo hi d ≡ true
@@ -64,7 +61,7 @@ alive-row-more words s x n lo hi h k p =
         → ((u and between lo hi (getD words p 0)) || (t and between lo hi (getD words n 0))) ≡ (ltb p (n + 1) and between lo hi (getD words p 0))
     go true e true f = let x = eqb-true n p e in let y = ltb-true p n f in absurd (omega arith)
     go true e false f = let x = eqb-true n p e in rw (lt-ltb p (n + 1) (omega arith), x)
-    go false e true f = let y = ltb-true p n f in rw (lt-ltb p (n + 1) (omega arith)) (or-false _ _ refl)
+    go false e true f = let y = ltb-true p n f in rw (lt-ltb p (n + 1) (omega arith)) (or-false _)
     go false e false f = let y = ltb-false p n f in let x : ¬ (n ≡ p) = eqb-false n p e in rw (le-ltb p (n + 1) (omega arith))
 
 -- the loop over the marks

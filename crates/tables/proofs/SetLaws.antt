@@ -1,46 +1,32 @@
--- The laws of a set held in a word. Bit j of a union or of an intersection is the greater or the lesser of the two bits, so membership is an
--- `||` or an `and`. A walk over the elements, lowest first, keeps the elements from k on, shifted down by k: what the lowest of those is says
+-- The laws of a set held in a word. Membership in a union is an `||`; bit j of an intersection is the lesser of the two bits, so membership is an
+-- `and`. A walk over the elements, lowest first, keeps the elements from k on, shifted down by k: what the lowest of those is says
 -- where the next element stands, that none lies between, and what is left after it.
 use mathlib.Core.Path.{_≡_, refl, sym, ap, subst, _∙_}
-use mathlib.Core.Bool.{Bool, true, false, _||_}
-use Prim.Native.Nat.{ℕ, zero, suc, _+_, _-_, _*_, _/_, _%_, _^_, _≤_, _<_, max, min}
-use native.Mathlib.Nat.{one-mul, div-eq-of-lt, div-self, mod-lt, not-suc-le-zero, div-one, le-of-suc-le-suc}
+use mathlib.Core.Bool.{false, _||_}
+use Prim.Native.Nat.{ℕ, zero, suc, _+_, _-_, _*_, _/_, _%_, _^_, _≤_, _<_, min}
+use native.Mathlib.Nat.{one-mul, mod-lt, not-suc-le-zero, div-one, le-of-suc-le-suc}
 use native.Mathlib.Numerals.{add-one}
-use native.Mathlib.Omega.{arith, ne-cases}
+use native.Mathlib.Omega.{arith}
 use lib.Arith.{digits-mod}
-use lib.Bits.{bitOr, or-shr, or-step, shifted-even, bitAnd, and-shr, and-step}
+use lib.Bits.{bitOr, bitAnd, and-shr, and-step}
 use lib.Count.{trailingZeros, under}
 use lib.Dec.{lit<, eqb}
-use lib.Pow.{pow-pos, pow-lt, pow-add, shl-shr, shl-exact, shr-shr, shr-lt}
-use mathlib.Mathlib.Data.Bool.Basic.{eq-false-of-not-eq-true}
-use borrow.Author.Tests.{eqb-true, eqb-false}
+use lib.Pow.{shl-exact, shr-shr, shr-lt}
+use mathlib.Core.Logic.{⊎-elim}
+use mathlib.Mathlib.Data.Bool.Basic.{or-inl, or-inr, eq-false-of-not-eq-true}
+use borrow.Author.Tests.{eqb-true}
 use Rattle.walk.specs.Numbers.{has, _and_}
-use Rattle.walk.proofs.Numbers.{Yes}
-use Rattle.walk.proofs.Sets.{zero-has, has-below}
+use Rattle.walk.proofs.Numbers.{Yes, or-in, eqb-of, yes-same}
+use Rattle.walk.proofs.Sets.{or-has, pow-has, pow-in, zero-has, has-below}
 use Rattle.tables.specs.Sets.{Lowest}
 
--- ---- a union
-digit-or : (x y : ℕ) → x < 2 → y < 2 → eqb (max x y) 1 ≡ (eqb x 1 || eqb y 1)
-digit-or zero zero hx hy = refl
-digit-or zero (suc zero) hx hy = refl
-digit-or (suc zero) zero hx hy = refl
-digit-or (suc zero) (suc zero) hx hy = refl
-digit-or (suc (suc x)) y hx hy = absurd (omega arith)
-digit-or zero (suc (suc y)) hx hy = absurd (omega arith)
-digit-or (suc zero) (suc (suc y)) hx hy = absurd (omega arith)
-
-or-digit : (a b j : ℕ) → bitOr a b / 2 ^ j % 2 ≡ max (a / 2 ^ j % 2) (b / 2 ^ j % 2)
-or-digit a b j =
-    let x = a / 2 ^ j in
-    let y = b / 2 ^ j in
-    ap (λ (n : ℕ). n % 2) (or-shr a b j ∙ or-step x y)
-    ∙ digits-mod (bitOr (x / 2) (y / 2)) (let z : max (x % 2) (y % 2) < 2 = omega arith in z)
-
+-- a union
 pub has-or : (a b j : ℕ) → has (bitOr a b) j ≡ (has a j || has b j)
-unfolding has
-has-or a b j = ap (λ (n : ℕ). eqb n 1) (or-digit a b j) ∙ digit-or _ _ (mod-lt (a / 2 ^ j) (lit< tt)) (mod-lt (b / 2 ^ j) (lit< tt))
+has-or a b j =
+    let L = or-has a b j in
+    yes-same (λ h. ⊎-elim (λ x. or-inl (has a j) (has b j) x) (λ x. or-inr (has a j) (has b j) x) (L .0 h)) (λ h. L .1 (or-in (has a j) (has b j) h))
 
--- ---- an intersection
+-- an intersection
 digit-and : (x y : ℕ) → x < 2 → y < 2 → eqb (min x y) 1 ≡ (eqb x 1 and eqb y 1)
 unfolding _and_
 digit-and zero zero hx hy = refl
@@ -62,45 +48,22 @@ pub has-and : (a b j : ℕ) → has (bitAnd a b) j ≡ (has a j and has b j)
 unfolding has
 has-and a b j = ap (λ (n : ℕ). eqb n 1) (and-digit a b j) ∙ digit-and _ _ (mod-lt (a / 2 ^ j) (lit< tt)) (mod-lt (b / 2 ^ j) (lit< tt))
 
--- ---- one element
+-- one element
 pub one-shl : (q : ℕ) → q < 32 → 1 * 2 ^ q % 4294967296 ≡ 2 ^ q
 one-shl q lt = shl-exact 1 q 32 (lit< tt) (omega (arith, lt)) ∙ one-mul (2 ^ q)
 
-one-has : (q : ℕ) → has (2 ^ q) q ≡ true
-unfolding has
-one-has q = ap (λ (n : ℕ). eqb (n % 2) 1) (div-self (pow-pos q))
-
-one-other : (q j : ℕ) → (q ≡ j → ⊥) → has (2 ^ q) j ≡ false
-unfolding has
-one-other q j ne = ap (λ (n : ℕ). eqb n 1) (ne-cases q j (2 ^ q / 2 ^ j % 2 ≡ 0) ne (λ lt. ap (λ (n : ℕ). n % 2) (div-eq-of-lt (pow-lt lt))) (λ lt. below lt))
-  where
-    below : j < q → 2 ^ q / 2 ^ j % 2 ≡ 0
-    below lt =
-        let d = q - suc j in
-        let e : q ≡ suc d + j = omega (arith, lt) in
-        ap (λ (n : ℕ). n / 2 ^ j % 2) (ap (λ (n : ℕ). 2 ^ n) e ∙ pow-add 2 (suc d) j)
-        ∙ ap (λ (n : ℕ). n % 2) (shl-shr (2 ^ suc d) j ∙ sym (one-mul (2 ^ suc d)))
-        ∙ shifted-even 1 d
-
 pub one-is : (q j : ℕ) → has (2 ^ q) j ≡ eqb q j
-one-is q j = go (eqb q j) refl
-  where
-    go : (t : Bool) → eqb q j ≡ t → has (2 ^ q) j ≡ t
-    go true e = subst (λ (n : ℕ). has (2 ^ q) n ≡ true) (eqb-true q j e) (one-has q)
-    go false e = one-other q j (eqb-false q j e)
+one-is q j = yes-same (λ h. eqb-of (sym (pow-has q j h))) (λ e. subst (λ (n : ℕ). Yes (has (2 ^ q) n)) (eqb-true q j e) (pow-in q))
 
--- ---- none, and those from k on
+-- none, and those from k on
 pub has-none : (j : ℕ) → has 0 j ≡ false
 has-none j = eq-false-of-not-eq-true (zero-has j)
-
-has-high : (n i : ℕ) → n < 2 ^ 32 → 32 ≤ i → has n i ≡ false
-has-high n i small h = eq-false-of-not-eq-true (λ t. let l = has-below 32 n i small t in omega arith)
 
 has-shr : (n k i : ℕ) → has (n / 2 ^ k) i ≡ has n (k + i)
 unfolding has
 has-shr n k i = ap (λ (m : ℕ). eqb (m % 2) 1) (shr-shr n k i)
 
--- ---- the lowest element, below 2 ^ k
+-- the lowest element, below 2 ^ k
 record Low (k n z : ℕ) : Type 0 where
   below : z < k
   stands : Yes (has n z)
@@ -135,7 +98,7 @@ lowest-is n ne l =
     let L = low 32 n (omega arith) l in
     record { below = L .below; stands = L .stands; first = L .first }
 
--- ---- a walk, lowest first: the elements from k on are `rest`, shifted down, and the first of them stands at z
+-- a walk, lowest first: the elements from k on are `rest`, shifted down, and the first of them stands at z
 pub record Walk (set rest k z : ℕ) : Type 0 where
   pub below : k + z < 32
   pub stands : Yes (has set (k + z))

@@ -3,7 +3,7 @@
 -- its end that is `steps`.
 use Prim.Native.Nat.{ℕ, zero, suc, _+_, _*_, _/_, _^_, _≤_, _<_}
 use mathlib.Core.Path.{_≡_, refl, sym, ap, ap₂, _∙_}
-use mathlib.Core.Bool.{Bool, true, false, _||_, false≢true}
+use mathlib.Core.Bool.{Bool, true, false, _||_, false≢true, or-comm}
 use mathlib.Core.List.{List}
 use mathlib.Core.Logic.{⊎-elim}
 use mathlib.Mathlib.Data.Bool.Basic.{or-inl, or-inr}
@@ -22,7 +22,7 @@ use Rattle.tables.specs.Lent.{movesOf}
 use Rattle.tables.specs.Steps.{Clear, InRange, Filled, steps}
 use Rattle.tables.proofs.SetLaws.{Walk, walk-end, has-or, has-none, one-is}
 
--- ---- tests
+-- tests
 pub any-more : (n : ℕ) (p : ℕ → Bool) → anyBelow (n + 1) p ≡ (p n || anyBelow n p)
 unfolding anyBelow
 any-more n p = rw add-one
@@ -42,12 +42,6 @@ any-skip a b p l h =
     anyBelow-of a p i low y)
     (λ t. let (i, m, y) = anyBelow-in a p t in anyBelow-of b p i (omega arith) y)
 
-or-swap : (a b : Bool) → (a || b) ≡ (b || a)
-or-swap true true = refl
-or-swap true false = refl
-or-swap false true = refl
-or-swap false false = refl
-
 pub no-and : (a b : Bool) → a ≡ false → a and b ≡ false
 unfolding _and_
 no-and a b e = rw e
@@ -56,7 +50,7 @@ pub yes-and : (a b : Bool) → a ≡ true → a and b ≡ b
 unfolding _and_
 yes-and a b e = rw e
 
--- ---- the walk over the kinds of a tie: q follows p by kind k of the set
+-- the walk over the kinds of a tie: q follows p by kind k of the set
 abbrev pub by : List ℕ → ℕ → ℕ → ℕ → ℕ → Bool
 by T kinds p q k = has kinds k and has (getD T (k * 32 + p) 0) q
 
@@ -64,7 +58,7 @@ pub next-more : (T : List ℕ) (kinds p set rest k z : ℕ) → Walk kinds rest 
     → (q : ℕ) → has (bitOr set (getD T ((k + z) * 32 + p) 0)) q ≡ anyBelow (k + z + 1) (by T kinds p q)
 next-more T kinds p set rest k z W h q =
     has-or set _ q
-    ∙ or-swap (has set q) (has (getD T ((k + z) * 32 + p) 0) q)
+    ∙ or-comm (has set q) (has (getD T ((k + z) * 32 + p) 0) q)
     ∙ ap₂ _||_ (sym (yes-and _ _ (W .stands))) (h q ∙ sym (any-skip k (k + z) (by T kinds p q) (omega arith) (λ i l m. no-and _ _ (W .between i l m))))
     ∙ sym (any-more (k + z) (by T kinds p q))
 
@@ -77,7 +71,7 @@ pub next-none : (T : List ℕ) (kinds p q : ℕ) → has 0 q ≡ anyBelow 0 (by 
 unfolding anyBelow
 next-none T kinds p q = has-none q
 
--- ---- the moves that three columns hold
+-- the moves that three columns hold
 abbrev none : Move
 none = record { from = 0; kind = 0; to = 0 }
 
@@ -106,7 +100,7 @@ module _ (C : Condition) (n : ℕ) (f k t : List ℕ) (e : C .moves ≡ movesOf 
         to-in = omega (arith, R .to-in j c, ap (λ (x : Move). x .to) m);
       }
 
--- ---- the loop that fills
+-- the loop that fills
 pub clear-new : (n : ℕ) → Clear (replicate n 0) n
 clear-new n = record { size = length-replicate n 0; zero = all n }
   where
@@ -128,7 +122,7 @@ put-has T at n h i q = go (eqb at i) refl
         rw (← eqb-true at i e)
         (ap (λ (m : ℕ). has m q) (getD-set-same T at _ 0 h)
         ∙ has-or (getD T at 0) (2 ^ n) q
-        ∙ or-swap (has (getD T at 0) q) (has (2 ^ n) q)
+        ∙ or-comm (has (getD T at 0) q) (has (2 ^ n) q)
         ∙ ap (λ (b : Bool). b || has (getD T at 0) q) (one-is n q))
     go false e = ap (λ (m : ℕ). has m q) (getD-set-other T at i _ 0 (λ x. eqb-false at i e (sym x)))
 

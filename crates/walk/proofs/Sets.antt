@@ -52,7 +52,7 @@ digit-has s q h = eqb-of {n = 1} h
 pub zero-has : (q : ℕ) → Yes (has 0 q) → ⊥
 zero-has q h = let e = has-digit 0 q h in let z = zero-div (2 ^ q) in omega arith
 
-or-has : (a b q : ℕ) → Yes (has (bitOr a b) q) ↔ (Yes (has a q) ⊎ Yes (has b q))
+pub or-has : (a b q : ℕ) → Yes (has (bitOr a b) q) ↔ (Yes (has a q) ⊎ Yes (has b q))
 or-has a b q = (
   λ h. let e = has-digit (bitOr a b) q h in
       max-cases (a / 2 ^ q % 2) (b / 2 ^ q % 2) _ (λ le g. inr (digit-has b q (sym g ∙ sym f ∙ e))) (λ le g. inl (digit-has a q (sym g ∙ sym f ∙ e))),
@@ -68,7 +68,10 @@ or-has a b q = (
     other : b / 2 ^ q % 2 ≡ 1 → max (a / 2 ^ q % 2) (b / 2 ^ q % 2) ≡ 1
     other e = omega arith
 
-pow-has : (n q : ℕ) → Yes (has (2 ^ n) q) → q ≡ n
+pub pow-in : (n : ℕ) → Yes (has (2 ^ n) n)
+pow-in n = digit-has (2 ^ n) n (pow-digit n)
+
+pub pow-has : (n q : ℕ) → Yes (has (2 ^ n) q) → q ≡ n
 pow-has n q h = let w = has-digit (2 ^ n) q h in eqb-true q n (eq-true-of-not-eq-false (λ e. let z = pow-other n q (eqb-false q n e) in absurd (omega arith)))
 
 -- a set that is made
@@ -89,7 +92,7 @@ set-of zero p q l t = absurd (not-suc-le-zero l)
 set-of (suc n) p q l t = go (p n) refl (eq-or-lt-of-le (le-of-suc-le-suc l)) (λ k. set-of n p q k t)
   where
     go : (b : Bool) → p n ≡ b → (q ≡ n) ⊎ (q < n) → (q < n → Yes (has (setBelow n p) q)) → Yes (has (cond b (bitOr (setBelow n p) (2 ^ n)) (setBelow n p)) q)
-    go true e (inl k) ih = or-has (setBelow n p) (2 ^ n) q .1 (inr (rw k (digit-has (2 ^ n) n (pow-digit n))))
+    go true e (inl k) ih = or-has (setBelow n p) (2 ^ n) q .1 (inr (rw k (pow-in n)))
     go true e (inr k) ih = or-has (setBelow n p) (2 ^ n) q .1 (inl (ih k))
     go false e (inl k) ih = absurd (false≢true (sym e ∙ rw k at t))
     go false e (inr k) ih = ih k

@@ -1,3 +1,4 @@
+-- The loop writes 40 words; the measure is how many are left.
 use Prim.Native.Nat.{_-_, _≤_}
 use borrow.Author.Needs.{needs}
 use Rattle.rounds_trial.proofs.area_words.Statement.{statement}

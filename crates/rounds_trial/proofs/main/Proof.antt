@@ -1,3 +1,4 @@
+-- The loop ends after a million calls at the latest.
 use Prim.Native.Nat.{_-_, _≤_}
 use borrow.Author.Needs.{needs}
 use Rattle.rounds_trial.proofs.main.Statement.{statement}

@@ -1,3 +1,4 @@
+-- The loop keeps the length of the column; the measure is how many sets are left.
 use Prim.Native.Nat.{_-_, _≤_}
 use mathlib.Core.Path.{_≡_, _∙_}
 use native.Mathlib.Omega.{arith}

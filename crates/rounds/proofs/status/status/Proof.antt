@@ -1,6 +1,7 @@
 -- The part that is lent is the row of t, so the two results are those that the status asks for.
-use Prim.Native.Nat.{_+_, _-_, _*_}
+use Prim.Native.Nat.{_+_, _-_, _*_, _≤_, _<_}
 use mathlib.Core.Path.{_≡_, refl, _∙_, ap}
+use native.Mathlib.Omega.{arith}
 use lib.ListN.{length, take, drop}
 use borrow.Author.Needs.{needs}
 use borrow.Author.Tests.{le-leb, lt-leb}
@@ -25,6 +26,10 @@ any-is : (c : tie.After-stands)
     → let S = c .before .before .before .before .before .before .before .args in
     c .stands .result ≡ stands (S .area .now) (S .marks * S .condition .states) (S .r)
 any-is c = rw (c .before .pairs .ensures .0) at (c .stands .ensures)
+
+-- no accepting state at t has a word up to r
+later : (c : tie.Else1) → c .before .before .before .before .before .args .r < c .before .nearest .result
+later c = omega arith
 
 place-requires : tie.Need-place-requires
 place-requires c κs = search needs
@@ -53,7 +58,9 @@ cast-t16 : tie.Need-cast-t16
 cast-t16 c = search needs
 
 returns : tie.Need-returns
-returns c = rw (← best-is (c .before), le-leb _ _ (c .if1 .taken))
+returns c =
+    let h : c .before .nearest .result ≤ c .before .before .before .before .before .args .r = omega arith in
+    rw (← best-is (c .before), le-leb _ _ h)
 
 pairs-requires : tie.Need-pairs-requires
 pairs-requires c κs = search needs
@@ -64,12 +71,12 @@ stands-requires c κs = search needs
 returns-2 : tie.Need-returns-2
 returns-2 c =
     let N = c .before .before .before in
-    rw (← best-is (N .before), lt-leb _ _ (N .if1 .left), ← any-is (c .before), c .if2 .taken)
+    rw (← best-is (N .before), lt-leb _ _ (later N), ← any-is (c .before), c .if2 .taken)
 
 returns-3 : tie.Need-returns-3
 returns-3 c =
     let N = c .before .before .before in
-    rw (← best-is (N .before), lt-leb _ _ (N .if1 .left), ← any-is (c .before), c .if2 .left)
+    rw (← best-is (N .before), lt-leb _ _ (later N), ← any-is (c .before), c .if2 .left)
 
 pub status-spec : {M : Type 1} → statement M
 status-spec =

@@ -1,3 +1,4 @@
+-- The number of trailing zeros is the lowest element.
 use native.Mathlib.Omega.{arith}
 use Rattle.tables.proofs.SetLaws.{lowest-is}
 use Rattle.tables.proofs.sets.lowest.Statement.{statement}

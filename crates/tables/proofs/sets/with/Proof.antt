@@ -1,3 +1,4 @@
+-- A one shifted by n is 2 to the n, which fits.
 use borrow.Author.Needs.{needs}
 use Rattle.tables.proofs.SetLaws.{one-shl}
 use Rattle.tables.proofs.sets.with.Statement.{statement}

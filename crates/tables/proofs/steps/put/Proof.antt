@@ -1,3 +1,4 @@
+-- Each of the two words is written where the contract says, with one bit more.
 use Prim.Native.Nat.{ℕ, _+_, _*_}
 use mathlib.Core.Path.{ap₂}
 use Rattle.tables.proofs.StepLaws.{put-is}

@@ -1,3 +1,4 @@
+-- A tested number is below the bound, so its entry is the number; the other answer is at odds with that.
 use Prim.Native.Nat.{ℕ}
 use mathlib.Core.Path.{_≡_, sym, _∙_}
 use borrow.Author.Needs.{needs}

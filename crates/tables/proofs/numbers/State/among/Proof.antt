@@ -1,3 +1,4 @@
+-- The bit is read as the definition reads it.
 use borrow.Author.Needs.{needs}
 use Rattle.walk.specs.Numbers.{has}
 use Rattle.tables.proofs.numbers.State.among.Statement.{statement}

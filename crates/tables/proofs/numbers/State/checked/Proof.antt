@@ -1,3 +1,4 @@
+-- The entry answers the number exactly where the test passes.
 use Prim.Native.Nat.{_<_}
 use native.Mathlib.Omega.{arith}
 use borrow.Author.Tests.{lt-ltb, le-ltb}
