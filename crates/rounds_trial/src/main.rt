@@ -1,5 +1,10 @@
 // Tries start and round on calls that are handed in on standard input, and writes what each answered and left. Who asks computes the same by brute
 // force: tools/try_rounds.py. A call is 128 words of 16 bits, lowest byte first; an answer is 48.
+//
+// The words of a call: 0 for start or 1 for a round; V, K, Q, s, t; the lengths of the three columns, the number of moves, the length of the area;
+// two words each for the count, the start set and the accepting set; 8 from marks, 8 to marks, 8 sets of two words; the moves' 8 from states, 8
+// kinds and 8 to states; 40 words of the area. The words of an answer: 0 and the refusal's number, or 1 and the length (Found), 2 (None), 3 (Going);
+// two words for the place or the count; from word 8 on the area.
 
 ghost use mathlib.Core.Path.{_≡_};
 ghost use Prim.Native.Nat.{_+_, _≤_, _<_};

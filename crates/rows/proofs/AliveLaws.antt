@@ -11,6 +11,7 @@ use lib.Dec.{leb, ltb, eqb}
 use lib.ListN.{length, getD, set}
 use lib.Seq.{getD-set-same, getD-set-other}
 use borrow.Author.Tests.{eqb-true, eqb-false, ltb-true, ltb-false, lt-ltb, le-ltb, le-leb, lt-leb, leb-true}
+use Rattle.walk.specs.Ceilings.{ceilings}
 use Rattle.walk.specs.Numbers.{has, _and_}
 use Rattle.walk.proofs.Numbers.{Yes, and-in}
 use Rattle.tables.proofs.SetLaws.{has-or, has-and, has-none, one-is}
@@ -68,7 +69,7 @@ alive-row-more words s x n lo hi h k p =
 pub alive-none : (L A : List ℕ) (Q lo hi : ℕ) → Alive L A 0 Q lo hi
 alive-none L A Q lo hi u p h = absurd (not-suc-le-zero h)
 
-pub alive-more : (L A W : List ℕ) (n v Q lo hi x : ℕ) → length L ≡ 1024 → v < n → n ≤ 1024 → n * Q ≤ length A → W ≡ row A Q v → AliveRow x W (length W) lo hi
+pub alive-more : (L A W : List ℕ) (n v Q lo hi x : ℕ) → length L ≡ ceilings .marks → v < n → n ≤ ceilings .marks → n * Q ≤ length A → W ≡ row A Q v → AliveRow x W (length W) lo hi
     → Alive L A v Q lo hi → Alive (set L v x) A (v + 1) Q lo hi
 unfolding _and_
 alive-more L A W n v Q lo hi x size hv hn room e X F u p h = go (eqb u v) refl

@@ -12,12 +12,13 @@ use lib.Dec.{ltb, eqb}
 use lib.ListN.{length, getD, set, take, drop, length-set, length-drop, take-append-drop, replicate, getD-replicate, length-replicate}
 use lib.Seq.{ext-getD, getD-take, getD-drop, getD-set-same, getD-set-other, length-take-le}
 use borrow.Author.Tests.{eqb-true, eqb-false, ltb-true, ltb-false, eq-eqb, ne-eqb}
+use Rattle.walk.specs.Ceilings.{ceilings}
 use Rattle.walk.specs.Numbers.{has, anyBelow}
 use Rattle.tables.proofs.StepLaws.{no-and, yes-and, any-more}
 use Rattle.rows.specs.Rows.{row, opening, Row, Put, RowsTo}
 
 -- where a row stands
-pub place-in : (v Q n : ℕ) → v < n → n ≤ 1024 → Q ≤ 32 → (v * Q + Q ≤ n * Q) × (n * Q ≤ 32768)
+pub place-in : (v Q n : ℕ) → v < n → n ≤ ceilings .marks → Q ≤ ceilings .states → (v * Q + Q ≤ n * Q) × (n * Q ≤ ceilings .words)
 place-in v Q n h m k = (omega (arith, mul-le-mul-right Q h), omega (arith, mul-le-mul m k))
 
 pub row-at : (A : List ℕ) (Q v q : ℕ) → q < Q → getD (row A Q v) q 0 ≡ getD A (v * Q + q) 0

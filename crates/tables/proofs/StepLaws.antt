@@ -15,6 +15,7 @@ use lib.ListN.{length, getD, set, replicate, length-set, length-replicate}
 use lib.Seq.{getD-set-same, getD-set-other}
 use borrow.Author.Tests.{eqb-true, eqb-false}
 use Rattle.walk.specs.declared.Move.{Move}
+use Rattle.walk.specs.Ceilings.{ceilings}
 use Rattle.walk.specs.Numbers.{has, _and_, anyBelow}
 use Rattle.walk.specs.Condition.{Condition, moveAt, follows}
 use Rattle.walk.proofs.Numbers.{Yes, and-in, and-of, or-in, eqb-of, anyBelow-in, anyBelow-of, length-table, getD-table, yes-same}
@@ -77,7 +78,7 @@ none = record { from = 0; kind = 0; to = 0 }
 
 -- move j is in range
 pub record MoveIn (f k t : List ℕ) (K Q j : ℕ) : Type 0 where
-  pub few : j < 256
+  pub few : j < ceilings .moves
   pub from-in : getD f j 0 < Q
   pub kind-in : getD k j 0 < K
   pub to-in : getD t j 0 < Q
@@ -148,12 +149,12 @@ place-is a b d x p q ha hp = yes-same there back
 
 -- the table and the sources of the first j moves
 pub record UpTo (T S f k t : List ℕ) (j : ℕ) : Type 0 where
-  pub size : length T ≡ 1024
-  pub sources : length S ≡ 32
+  pub size : length T ≡ ceilings .kinds * ceilings .states
+  pub sources : length S ≡ ceilings .kinds
   pub says : (a p q : ℕ) → a < 32 → p < 32 → has (getD T (a * 32 + p) 0) q ≡ anyBelow j (goes f k t p a q)
   pub covers : (a p q : ℕ) → a < 32 → p < 32 → Yes (has (getD T (a * 32 + p) 0) q) → Yes (has (getD S a 0) p)
 
-pub up-to-none : (T S f k t : List ℕ) → Clear T 1024 → Clear S 32 → UpTo T S f k t 0
+pub up-to-none : (T S f k t : List ℕ) → Clear T (ceilings .kinds * ceilings .states) → Clear S (ceilings .kinds) → UpTo T S f k t 0
 unfolding anyBelow
 up-to-none T S f k t z s = record {
   size = z .size;

@@ -5,6 +5,7 @@ use mathlib.Core.Path.{_≡_, refl, sym, ap, _∙_}
 use mathlib.Core.List.{List, []}
 use borrow.Author.Needs.{needs}
 use borrow.Author.Tests.{lt-ltb, le-ltb}
+use Rattle.walk.specs.Ceilings.{ceilings}
 use Rattle.walk.specs.Question.{Question}
 use Rattle.walk.specs.Answers.{question}
 use Rattle.walk.specs.Refusals.{Row, sizes, badTie, tieOrder, badCondition, badMove, badEnds, shortArea, start-tests}
@@ -80,7 +81,7 @@ sizes-in : (c : tie.Else1) → SizesRight (asked (s1 c))
 unfolding sizes
 sizes-in c = row-1 (asked (s1 c)) .passes .0 (sym (c .before .bad-sizes .ensures) ∙ c .if1 .left)
 
-states-in : (c : tie.Else4) → (s4 c .args .condition .states ≤ 32) × (s4 c .args .moves ≤ 256)
+states-in : (c : tie.Else4) → (s4 c .args .condition .states ≤ ceilings .states) × (s4 c .args .moves ≤ ceilings .moves)
 states-in c =
     let (_, b, m, _, _) = states-law (s4 c .args .condition) (s4 c .args .moves) [] [] [] .0 (sym (c .before .bad-states .ensures [] [] []) ∙ c .if4 .left) in
     (b, m)
