@@ -25,7 +25,7 @@ fn join(set: u32, p: State, d: u16, lo: u16, hi: u16) -> u32
 }
 
 // The states of a row.
-fn of_row(words: &[u16], states: usize, lo: u16, hi: u16) -> u32
+pub fn of_row(words: &[u16], states: usize, lo: u16, hi: u16) -> u32
     requires { ⌜ (length (now words) ≡ states) × (states ≤ ceilings .states) ⌝ }
     ensures { λ r. ⌜ AliveRow r (now (words .entry)) states lo hi ⌝ }
 {

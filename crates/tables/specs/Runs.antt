@@ -15,3 +15,8 @@ pub record Cut (to : List ℕ) (ties v at : ℕ) : Type 0 where
   pub within : at ≤ ties
   pub before : (e : ℕ) → e < at → getD to e 0 < v
   pub after : (e : ℕ) → at ≤ e → e < ties → v ≤ getD to e 0
+
+-- the ties from `first` on, up to `end`, are those into v
+pub record RunInto (to : List ℕ) (ties v first end : ℕ) : Type 0 where
+  pub begins : Cut to ties v first
+  pub ends : Cut to ties (suc v) end

@@ -4,6 +4,7 @@
 ghost use mathlib.Core.Path.{_≡_};
 ghost use Prim.Native.Nat.{_<_};
 ghost use lib.ListN.{length, getD};
+ghost use Rattle.walk.specs.Ceilings.{ceilings};
 ghost use Rattle.walk.specs.Numbers.{has};
 ghost use Rattle.tables.specs.Entries.{markEntry, tieEntry, kindEntry, stateEntry, Entered};
 
@@ -66,6 +67,14 @@ impl Mark {
         }
     }
 
+    // A mark of a tested column.
+    pub fn fetched(column: &[u16], i: usize, marks: usize) -> Mark
+        requires { ⌜ (i < length (now column)) × (getD (now column) i 0 < marks) ⌝ }
+        ensures { λ r. ⌜ Entered (r .0) (getD (now (column .entry)) i 0) marks ⌝ }
+    {
+        Mark::tested(wide(column, i), marks)
+    }
+
     pub fn index(self) -> usize
         ensures { λ r. ⌜ r ≡ self .0 ⌝ }
     {
@@ -99,7 +108,7 @@ impl Tie {
         requires { ⌜ (self .0 < length (now from)) × (getD (now from) (self .0) 0 < marks) ⌝ }
         ensures { λ r. ⌜ Entered (r .0) (getD (now (from .entry)) (self .0) 0) marks ⌝ }
     {
-        Mark::tested(wide(from, self.0), marks)
+        Mark::fetched(from, self.0, marks)
     }
 
     // The mark that the tie enters, by a tested column.
@@ -107,7 +116,7 @@ impl Tie {
         requires { ⌜ (self .0 < length (now to)) × (getD (now to) (self .0) 0 < marks) ⌝ }
         ensures { λ r. ⌜ Entered (r .0) (getD (now (to .entry)) (self .0) 0) marks ⌝ }
     {
-        Mark::tested(wide(to, self.0), marks)
+        Mark::fetched(to, self.0, marks)
     }
 
     // The kinds of the tie that a chain may use.
@@ -117,6 +126,20 @@ impl Tie {
     {
         let e = self.0;
         sets[e]
+    }
+
+    pub fn index(self) -> usize
+        ensures { λ r. ⌜ r ≡ self .0 ⌝ }
+    {
+        self.0
+    }
+
+    // The tie as a word of a chain.
+    pub fn word(self) -> u16
+        requires { ⌜ self .0 < ceilings .ties ⌝ }
+        ensures { λ r. ⌜ r ≡ self .0 ⌝ }
+    {
+        self.0 as u16
     }
 }
 
