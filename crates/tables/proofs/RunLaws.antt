@@ -9,7 +9,7 @@ use native.Mathlib.Omega.{arith}
 use lib.ListN.{getD}
 use Rattle.tables.specs.Runs.{Rising, Cut}
 
-rises-le : (to : List ℕ) (ties marks : ℕ) → Rising to ties marks → (e f : ℕ) → e ≤ f → f < ties → getD to e 0 ≤ getD to f 0
+pub rises-le : (to : List ℕ) (ties marks : ℕ) → Rising to ties marks → (e f : ℕ) → e ≤ f → f < ties → getD to e 0 ≤ getD to f 0
 rises-le to ties marks R e zero l h = let x : e ≡ 0 = omega arith in rw x (le-refl _)
 rises-le to ties marks R e (suc f) l h =
     ⊎-elim (λ x. rw x (le-refl _)) (λ x. le-trans (rises-le to ties marks R e f (le-of-suc-le-suc x) (omega arith)) (R .rises f h)) (eq-or-lt-of-le l)
