@@ -1,0 +1,277 @@
+// Listing: first and next. Refusals 1 to 8 are the tests of `rounds`, 9 and 10 those of `tests`; the chains themselves are found by going `back`.
+
+pub mod tests;
+
+ghost use mathlib.Core.Path.{_≡_};
+ghost use Prim.Native.Nat.{_≤_, _<_};
+ghost use lib.ListN.{length, drop};
+ghost use Rattle.walk.specs.Ceilings.{ceilings};
+ghost use Rattle.walk.specs.Calls.{first, next};
+ghost use Rattle.walk.specs.Answers.{networkOf, question, saidFirst, saidNext, Meets};
+ghost use Rattle.walk.proofs.Back.{fill};
+ghost use Rattle.tables.specs.Lent.{movesOf};
+ghost use Rattle.back.specs.Over.{overTie, endsAt, Ready};
+ghost use Rattle.back.specs.Chain.{Fillable};
+ghost use Rattle.chains.specs.Listed.{Lists, Raisable, Follows};
+use back::fill;
+use back::look;
+use back::look::Seen;
+use back::step;
+use rounds::Rounds;
+use tables::numbers::Mark;
+use tables::numbers::Tie;
+use tables::steps::Steps;
+use tests::Asked;
+use walk::Ask;
+use walk::Condition;
+use walk::First;
+use walk::Network;
+use walk::Next;
+use walk::Refusal;
+
+// "First gives the earliest chain in the order, or says None and writes nothing."
+pub fn first(
+    rounds: Rounds,
+    network: Network,
+    condition: Condition,
+    ask: Ask,
+    from: &[u16],
+    to: &[u16],
+    kinds: &[u32],
+    moves: usize,
+    movefrom: &[u16; Condition::MOVES],
+    movekind: &[u16; Condition::MOVES],
+    moveto: &[u16; Condition::MOVES],
+    area: &[u16],
+    chain: &mut [u16],
+) -> First
+    ensures { λ r. ⌜ Meets
+        (first
+        (question network condition ask (now (from .entry)) (now (to .entry)) (now (kinds .entry))
+        (movesOf moves (now (movefrom .entry)) (now (movekind .entry)) (now (moveto .entry))))
+        (rounds .done)
+        (now (area .entry))
+        (now (chain .entry)))
+        (saidFirst r)
+        (now (chain .exit)) ⌝ }
+{
+    let mut table = [0u32; Steps::WORDS];
+    let room = chain.len();
+    match tests::tested(
+        rounds.done,
+        network,
+        condition,
+        ask,
+        from,
+        to,
+        kinds,
+        moves,
+        movefrom,
+        movekind,
+        moveto,
+        &mut table,
+        area,
+        room,
+    ) {
+        Asked::Refused(name, place) => First::Refused(name, place),
+        Asked::None => First::None,
+        Asked::Found(n) => {
+            let ties = from.len();
+            earliest(
+                network,
+                condition,
+                ask,
+                &from[0..ties],
+                &to[0..ties],
+                &kinds[0..ties],
+                &table,
+                area,
+                ties,
+                n,
+                chain,
+            );
+            First::Chain
+        }
+    }
+}
+
+// "Next reads a chain from the front of the chain buffer (16-bit words, as many as the least length) and puts the chain after it in its place, or
+// says End and writes nothing."
+pub fn next(
+    rounds: Rounds,
+    network: Network,
+    condition: Condition,
+    ask: Ask,
+    from: &[u16],
+    to: &[u16],
+    kinds: &[u32],
+    moves: usize,
+    movefrom: &[u16; Condition::MOVES],
+    movekind: &[u16; Condition::MOVES],
+    moveto: &[u16; Condition::MOVES],
+    area: &[u16],
+    chain: &mut [u16],
+) -> Next
+    ensures { λ r. ⌜ Meets
+        (next
+        (question network condition ask (now (from .entry)) (now (to .entry)) (now (kinds .entry))
+        (movesOf moves (now (movefrom .entry)) (now (movekind .entry)) (now (moveto .entry))))
+        (rounds .done)
+        (now (area .entry))
+        (now (chain .entry)))
+        (saidNext r)
+        (now (chain .exit)) ⌝ }
+{
+    let mut table = [0u32; Steps::WORDS];
+    let room = chain.len();
+    match tests::tested(
+        rounds.done,
+        network,
+        condition,
+        ask,
+        from,
+        to,
+        kinds,
+        moves,
+        movefrom,
+        movekind,
+        moveto,
+        &mut table,
+        area,
+        room,
+    ) {
+        Asked::Refused(name, place) => Next::Refused(name, place),
+        Asked::None => Next::Refused(Refusal::NotListed, 0),
+        Asked::Found(n) => {
+            let ties = from.len();
+            later(
+                network,
+                condition,
+                ask,
+                &from[0..ties],
+                &to[0..ties],
+                &kinds[0..ties],
+                &table,
+                area,
+                ties,
+                n,
+                chain,
+            )
+        }
+    }
+}
+
+// The earliest chain of length n, where there is one, over a right area.
+fn earliest(
+    network: Network,
+    condition: Condition,
+    ask: Ask,
+    from: &[u16],
+    to: &[u16],
+    kinds: &[u32],
+    table: &[u32; Steps::WORDS],
+    area: &[u16],
+    ties: usize,
+    n: usize,
+    chain: &mut [u16],
+) {
+    let t = Mark::tested(ask.to, network.marks);
+    let end = step::ends(area, network.marks, condition, t, n as u16);
+    fill::before(
+        from,
+        to,
+        kinds,
+        table,
+        area,
+        network,
+        condition.states,
+        ties,
+        n,
+        t,
+        end,
+        chain,
+    );
+}
+
+// The chain after the one that stands in the first n words, over a right area.
+fn later(
+    network: Network,
+    condition: Condition,
+    ask: Ask,
+    from: &[u16],
+    to: &[u16],
+    kinds: &[u32],
+    table: &[u32; Steps::WORDS],
+    area: &[u16],
+    ties: usize,
+    n: usize,
+    chain: &mut [u16],
+) -> Next {
+    let t = Mark::tested(ask.to, network.marks);
+    let end = step::ends(area, network.marks, condition, t, n as u16);
+    match look::look(
+        from,
+        to,
+        kinds,
+        table,
+        area,
+        network,
+        condition.states,
+        ties,
+        &chain[0..n],
+        t,
+        end,
+    ) {
+        Seen::Unlisted => Next::Refused(Refusal::NotListed, 0),
+        Seen::Last => Next::End,
+        Seen::At(place, tie, alive) => {
+            raise(
+                from,
+                to,
+                kinds,
+                table,
+                area,
+                network,
+                condition.states,
+                ties,
+                place,
+                tie,
+                alive,
+                chain,
+            );
+            Next::Chain
+        }
+    }
+}
+
+// The tie at a place is raised, and the places before it are filled with the smallest.
+fn raise(
+    from: &[u16],
+    to: &[u16],
+    kinds: &[u32],
+    table: &[u32; Steps::WORDS],
+    area: &[u16],
+    network: Network,
+    states: usize,
+    ties: usize,
+    place: usize,
+    tie: Tie,
+    alive: u32,
+    chain: &mut [u16],
+) {
+    chain[place] = tie.word();
+    fill::before(
+        from,
+        to,
+        kinds,
+        table,
+        area,
+        network,
+        states,
+        ties,
+        place,
+        tie.leaves(from, network.marks),
+        alive,
+        chain,
+    );
+}

@@ -1,0 +1,69 @@
+// The tests of first and next: refusals 1 to 8 as a round has them, then 9 and 10.
+
+use rounds::tests::Stand;
+use tables::steps::Steps;
+use walk::Ask;
+use walk::Condition;
+use walk::Network;
+use walk::Refusal;
+use walk::Status;
+
+// What the tests leave of first and next: the first refusal that is given, that there is no chain, or the least length of those there are.
+pub enum Asked {
+    Refused(Refusal, usize),
+    None,
+    Found(usize),
+}
+
+// Refusals 9 and 10, for a chain buffer with so much room.
+fn standing(found: Status, room: usize) -> Asked {
+    match found {
+        Status::Going => Asked::Refused(Refusal::Unfinished, 0),
+        Status::None => Asked::None,
+        Status::Found(n) => {
+            if room < n {
+                return Asked::Refused(Refusal::ShortChain, n);
+            }
+            Asked::Found(n)
+        }
+    }
+}
+
+// Refusals 1 to 10; the moves are brought into the step table.
+pub fn tested(
+    done: usize,
+    network: Network,
+    condition: Condition,
+    ask: Ask,
+    from: &[u16],
+    to: &[u16],
+    kinds: &[u32],
+    moves: usize,
+    movefrom: &[u16; Condition::MOVES],
+    movekind: &[u16; Condition::MOVES],
+    moveto: &[u16; Condition::MOVES],
+    table: &mut [u32; Steps::WORDS],
+    area: &[u16],
+    room: usize,
+) -> Asked {
+    let mut sources = [0u32; Network::KINDS];
+    match rounds::tests::tested(
+        done,
+        network,
+        condition,
+        ask,
+        from,
+        to,
+        kinds,
+        moves,
+        movefrom,
+        movekind,
+        moveto,
+        table,
+        &mut sources,
+        area,
+    ) {
+        Stand::Refused(name, place) => Asked::Refused(name, place),
+        Stand::At(found) => standing(found, room),
+    }
+}
