@@ -2,11 +2,10 @@
 """independent_lister.py SEED SESSIONS: random sessions at the desk, with every answer and buffer as document 01 says.
 
 A lister that shares nothing with the definitions: it takes least lengths from the sets of chains, and lists by
-trying every row of ties. It prints a table in the form of crates/walk/specs/OwnCases.antt, which the gate has the prover
+trying every row of ties that are joined. It prints a table in the form of crates/walk/specs/OwnCases.antt, which the gate has the prover
 compute from the definitions. On standard error it says how often each answer occurs.
 """
 import collections
-import itertools
 import random
 import sys
 
@@ -53,9 +52,16 @@ def matches(q, chain):
     return mark == q.t and bool(alive & members(q.accept))
 
 
+def joined(q, length):
+    """Every row of ties that leads on from s, each tie leaving the mark that the one before entered."""
+    rows = [()]
+    for _ in range(length):
+        rows = [row + (tie,) for row in rows for tie in range(len(q.froms)) if q.froms[tie] == (q.tos[row[-1]] if row else q.s)]
+    return rows
+
+
 def chains(q, length):
-    rows = itertools.product(range(len(q.froms)), repeat=length)
-    return sorted((list(row) for row in rows if matches(q, row)), key=lambda chain: chain[::-1])
+    return sorted((list(row) for row in joined(q, length) if matches(q, row)), key=lambda chain: chain[::-1])
 
 
 def refusal(q, call, rounds, area, chain):
