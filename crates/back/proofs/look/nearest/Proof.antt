@@ -1,3 +1,4 @@
+-- Each case of the enum is what the definition says of it.
 use borrow.Author.Needs.{needs}
 use Rattle.back.proofs.look.nearest.Statement.{statement}
 use Rattle.back.proofs.look.nearest.Tie as tie
@@ -18,7 +19,7 @@ returns-2 : tie.Need-returns-2
 returns-2 c = search needs
 
 returns-3 : tie.Need-returns-3
-returns-3 c = ?
+returns-3 c = rw (c .before .near .given .1)
 
 pub nearest-spec : {M : Type 1} → statement M
 nearest-spec =

@@ -1,3 +1,4 @@
+-- Each case of the enum is what the definition says of it.
 use borrow.Author.Needs.{needs}
 use Rattle.back.proofs.look.raised.Statement.{statement}
 use Rattle.back.proofs.look.raised.Tie as tie
@@ -9,7 +10,7 @@ enum-told : tie.Need-enum-told
 enum-told c = search needs
 
 returns : tie.Need-returns
-returns c = ?
+returns c = rw (c .before .higher .given .1)
 
 returns-2 : tie.Need-returns-2
 returns-2 c = search needs

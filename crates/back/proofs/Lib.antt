@@ -1,0 +1,2 @@
+pub mod FillLaws
+pub mod LookLaws
