@@ -110,7 +110,7 @@ module _ (N : Network) (C : Condition) (s t r : ℕ) where
       let (a, b) = and-in _ _ z in
       (eqb-true _ _ w, (q, a, b))
 
-  back-small : (e i S : ℕ) → back e i S < 2 ^ C .states
+  pub back-small : (e i S : ℕ) → back e i S < 2 ^ C .states
   unfolding back
   back-small e i S = set-small _ _
 

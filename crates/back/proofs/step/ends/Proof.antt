@@ -1,4 +1,8 @@
+-- The part that is lent is the row of t, so what is alive there are the states with the word n.
+use mathlib.Core.Path.{refl}
 use borrow.Author.Needs.{needs}
+use Rattle.rows.proofs.RowLaws.{row-is}
+use Rattle.back.proofs.OverLaws.{ends-is}
 use Rattle.back.proofs.step.ends.Statement.{statement}
 use Rattle.back.proofs.step.ends.Tie as tie
 
@@ -27,7 +31,7 @@ of-row-requires : tie.Need-of-row-requires
 of-row-requires c κs = search needs
 
 returns : tie.Need-returns
-returns c = ?
+returns c = ends-is _ _ _ _ _ _ _ (row-is _ _ _ _ _ (c .before .before .before .before .place .ensures .0) refl) (c .before .of-row .ensures)
 
 pub ends-spec : {M : Type 1} → statement M
 ends-spec =

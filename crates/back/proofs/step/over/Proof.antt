@@ -1,4 +1,10 @@
+-- The part that is lent is the row of u, so what is alive there are the states with the word i.
+use mathlib.Core.Path.{refl, sym, _∙_}
 use borrow.Author.Needs.{needs}
+use borrow.Author.Tests.{ltb-true}
+use Rattle.walk.proofs.Numbers.{and-in}
+use Rattle.rows.proofs.RowLaws.{row-is}
+use Rattle.back.proofs.OverLaws.{over-is}
 use Rattle.back.proofs.step.over.Statement.{statement}
 use Rattle.back.proofs.step.over.Tie as tie
 
@@ -27,10 +33,14 @@ of-row-requires : tie.Need-of-row-requires
 of-row-requires c κs = search needs
 
 leading-requires : tie.Need-leading-requires
-leading-requires c κs = ?
+leading-requires c κs =
+    let S = c .before .before .before .before .pre in
+    (S .1 .kinds-few, S .1 .narrow, S .2, λ p t. ltb-true p _ (and-in _ _ (sym (c .of-row .ensures p) ∙ t) .0))
 
 returns : tie.Need-returns
-returns c = ?
+returns c =
+    let R = c .before in
+    over-is _ _ _ _ _ _ _ _ _ _ (row-is _ _ _ _ _ (R .before .before .place .ensures .0) refl) (R .of-row .ensures) (c .leading .ensures)
 
 pub over-spec : {M : Type 1} → statement M
 over-spec =
