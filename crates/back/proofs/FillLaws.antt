@@ -18,7 +18,7 @@ use Rattle.back.specs.Picked.{picked}
 use Rattle.back.specs.Chain.{Fillable, Surely}
 
 -- a word is written: what stands from its place on
-drop-set : (l : List ℕ) (j e : ℕ) → j < length l → drop j (set l j e) ≡ e ∷ drop (suc j) l
+pub drop-set : (l : List ℕ) (j e : ℕ) → j < length l → drop j (set l j e) ≡ e ∷ drop (suc j) l
 drop-set l j e h =
     drop-cons (set l j e) j 0 (let z = length-set l j e in omega arith)
     ∙ ap₂ {B = List ℕ} (λ (x : ℕ) (y : List ℕ). x ∷ y) (getD-set-same l j e 0 h) (drop-set-lt (suc j) l j e (omega arith))

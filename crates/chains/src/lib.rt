@@ -2,17 +2,19 @@
 
 pub mod tests;
 
+ghost use mathlib.Core.Bool.{true};
 ghost use mathlib.Core.Path.{_≡_};
 ghost use Prim.Native.Nat.{_≤_, _<_};
 ghost use lib.ListN.{length, drop};
 ghost use Rattle.walk.specs.Ceilings.{ceilings};
 ghost use Rattle.walk.specs.Calls.{first, next};
 ghost use Rattle.walk.specs.Answers.{networkOf, question, saidFirst, saidNext, Meets};
+ghost use Rattle.walk.proofs.Sets.{nonempty};
 ghost use Rattle.walk.proofs.Back.{fill};
 ghost use Rattle.tables.specs.Lent.{movesOf};
 ghost use Rattle.back.specs.Over.{overTie, endsAt, Ready};
 ghost use Rattle.back.specs.Chain.{Fillable};
-ghost use Rattle.chains.specs.Listed.{Lists, Raisable, Follows};
+ghost use Rattle.chains.specs.Following.{raisedIn, Raises, Raisable, seenIn, Followed};
 use back::fill;
 use back::look;
 use back::look::Seen;
@@ -174,7 +176,15 @@ fn earliest(
     ties: usize,
     n: usize,
     chain: &mut [u16],
-) {
+)
+    requires { ⌜ Ready network (condition .states) ties (now from) (now to) (now kinds) (now area) × (ask .to < network .marks) × (n < ceilings .unreached)
+        × (n ≤ length (now chain)) × Fillable (networkOf network (now from) (now to) (now kinds))
+        (overTie (now table) (now area) (condition .states) (now from) (now kinds)) n (ask .to)
+        (endsAt (now area) (condition .states) (ask .to) (condition .accept) n) ⌝ }
+    ensures { λ _. ⌜ now (chain .exit) ≡ fill (networkOf network (now (from .entry)) (now (to .entry)) (now (kinds .entry)))
+        (overTie (now (table .entry)) (now (area .entry)) (condition .states) (now (from .entry)) (now (kinds .entry))) n (ask .to)
+        (endsAt (now (area .entry)) (condition .states) (ask .to) (condition .accept) n) (drop n (now (chain .entry))) ⌝ }
+{
     let t = Mark::tested(ask.to, network.marks);
     let end = step::ends(area, network.marks, condition, t, n as u16);
     fill::before(
@@ -206,7 +216,18 @@ fn later(
     ties: usize,
     n: usize,
     chain: &mut [u16],
-) -> Next {
+) -> Next
+    requires { ⌜ Ready network (condition .states) ties (now from) (now to) (now kinds) (now area) × (ask .to < network .marks) × (n < ceilings .unreached)
+        × (n ≤ length (now chain)) × (nonempty (endsAt (now area) (condition .states) (ask .to) (condition .accept) n) ≡ true)
+        × Raisable (networkOf network (now from) (now to) (now kinds))
+        (overTie (now table) (now area) (condition .states) (now from) (now kinds)) n
+        (seenIn (networkOf network (now from) (now to) (now kinds))
+        (overTie (now table) (now area) (condition .states) (now from) (now kinds)) n (ask .to)
+        (endsAt (now area) (condition .states) (ask .to) (condition .accept) n) (now chain)) ⌝ }
+    ensures { λ r. ⌜ Followed (networkOf network (now (from .entry)) (now (to .entry)) (now (kinds .entry)))
+        (overTie (now (table .entry)) (now (area .entry)) (condition .states) (now (from .entry)) (now (kinds .entry))) n (ask .to)
+        (endsAt (now (area .entry)) (condition .states) (ask .to) (condition .accept) n) (now (chain .entry)) r (now (chain .exit)) ⌝ }
+{
     let t = Mark::tested(ask.to, network.marks);
     let end = step::ends(area, network.marks, condition, t, n as u16);
     match look::look(
@@ -258,7 +279,13 @@ fn raise(
     tie: Tie,
     alive: u32,
     chain: &mut [u16],
-) {
+)
+    requires { ⌜ Ready network states ties (now from) (now to) (now kinds) (now area) × (place < ceilings .unreached)
+        × Raises (networkOf network (now from) (now to) (now kinds))
+        (overTie (now table) (now area) states (now from) (now kinds)) (length (now chain)) place (tie .0) alive ⌝ }
+    ensures { λ _. ⌜ now (chain .exit) ≡ raisedIn (networkOf network (now (from .entry)) (now (to .entry)) (now (kinds .entry)))
+        (overTie (now (table .entry)) (now (area .entry)) states (now (from .entry)) (now (kinds .entry))) place (tie .0) alive (now (chain .entry)) ⌝ }
+{
     chain[place] = tie.word();
     fill::before(
         from,

@@ -1,5 +1,12 @@
 // The tests of first and next: refusals 1 to 8 as a round has them, then 9 and 10.
 
+ghost use mathlib.Core.Path.{_≡_};
+ghost use Prim.Native.Nat.{_*_};
+ghost use Rattle.walk.specs.Ceilings.{ceilings};
+ghost use Rattle.walk.specs.Answers.{question};
+ghost use Rattle.tables.specs.Lent.{movesOf};
+ghost use Rattle.tables.specs.Steps.{Clear};
+ghost use Rattle.chains.specs.Asking.{standing, Asks};
 use rounds::tests::Stand;
 use tables::steps::Steps;
 use walk::Ask;
@@ -16,7 +23,9 @@ pub enum Asked {
 }
 
 // Refusals 9 and 10, for a chain buffer with so much room.
-fn standing(found: Status, room: usize) -> Asked {
+fn standing(found: Status, room: usize) -> Asked
+    ensures { λ r. ⌜ r ≡ standing found room ⌝ }
+{
     match found {
         Status::Going => Asked::Refused(Refusal::Unfinished, 0),
         Status::None => Asked::None,

@@ -1,5 +1,6 @@
 -- The test of the area. At each mark the row that a preparation begins with, lowered by the arcs from words below r, is the row of the area exactly
--- where the local test of the definition passes at that mark; and the area is the right one exactly where it passes at every mark.
+-- where the local test of the definition passes at that mark; and the area is the right one exactly where it passes at every mark. The step table
+-- decides the arcs, so an area that is right for one list of moves is right for every list with the same table.
 use Prim.Native.Nat.{ℕ, zero, suc, _+_, _*_, _≤_, _<_, zero-le}
 use mathlib.Core.Path.{_≡_, refl, sym, _∙_, subst, ap}
 use mathlib.Core.Bool.{Bool, true, false, false≢true, not, cond}
@@ -21,14 +22,14 @@ use Rattle.walk.specs.Question.{Question, usable, pairs, right}
 use Rattle.walk.specs.Demands.{Accepted}
 use Rattle.walk.specs.Answers.{question}
 use Rattle.walk.proofs.Numbers.{Yes, and-in, and-of, eqb-of, anyBelow-in, anyBelow-of}
-use Rattle.walk.proofs.Executable.{Sound, Arc, arc-in}
+use Rattle.walk.proofs.Executable.{Sound, Arc, arc-in, leads-in, leads-of}
 use Rattle.walk.proofs.Words.{unreached, Local, local-law}
 use Rattle.walk.proofs.Areas.{area-right}
 use Rattle.tables.specs.Runs.{Cut}
 use Rattle.tables.specs.Steps.{Tabled, Leads}
 use Rattle.rows.specs.Rows.{row, Sized, opening, Row, differ, Alive}
 use Rattle.rows.specs.Offers.{Lowered, Between, OfTie}
-use Rattle.rounds.specs.Judged.{Every, Tells}
+use Rattle.rounds.specs.Judged.{Every, IsRight, Tells}
 use Rattle.rows.proofs.RowLaws.{row-at, row-length}
 use Rattle.rounds.proofs.Offered.{sound, at, From, offered}
 
@@ -161,6 +162,34 @@ module _ (n : network.Network) (c : condition.Condition) (a : Ask) (from to sets
         let R = area-right (D m .network) (D m .condition) (a .from) r A (size .room) in
         let L = local-law (D m .network) (D m .condition) (a .from) r (sound (D m) acc) few (at (D m .condition) A) in
         (λ l. R .1 (L .0 l), λ e. L .1 (R .0 e))
+
+    -- the table decides the arcs, and so the right area
+    module _ (m m′ : List Move) (tab : Tabled T (D m .condition)) (tab′ : Tabled T (D m′ .condition)) (acc : Accepted (D m)) (acc′ : Accepted (D m′)) where
+      same-arc : (u p v q : ℕ) → Arc (D m .network) (D m .condition) u p v q → Arc (D m′ .network) (D m′ .condition) u p v q
+      same-arc u p v q x =
+          let ok = sound (D m) acc in
+          let (_, hp, _, _) = arc-in (D m .network) (D m .condition) ok u p v q x in
+          let (k, tk, f) = leads-in (D m .network) (D m .condition) ok (x .tie) p q (x .steps) in
+          let k32 : k < 32 = omega (arith, ok .kind-in (x .tie) k tk, size .kinds-few) in
+          let p32 : p < 32 = omega (arith, hp, size .narrow) in
+          record {
+            tie = x .tie;
+            tie-in = x .tie-in;
+            leaves = x .leaves;
+            arrives = x .arrives;
+            steps = leads-of (D m′ .network) (D m′ .condition) (sound (D m′) acc′) (x .tie) p q k tk (sym (tab′ k p q k32 p32) ∙ tab k p q k32 p32 ∙ f);
+          }
+
+    pub right-by-table : (m : List Move) → Tabled T (D m .condition) → Accepted (D m) → take (pairs (D m)) A ≡ right (D m) r → IsRight n c a from to sets T r A
+    unfolding starts
+    right-by-table m tab acc e m′ tab′ acc′ =
+        let L = test m acc .1 e in
+        test m′ acc′ .0 (record {
+          begins = L .begins;
+          comes = λ v q d h k f l. (let (u, p, x, w) = L .comes v q d h k f l in (u, p, same-arc m m′ tab tab′ acc acc′ u p v q x, w));
+          goes = λ u p v q x l. L .goes u p v q (same-arc m′ m tab′ tab acc′ acc u p v q x) l;
+          small = L .small;
+        })
 
     pub passed-all : (v : ℕ) → v ≡ n .marks → Passed v → Tells n c a from to sets T true r A
     passed-all v e P m tab acc =

@@ -1,5 +1,5 @@
 -- What the tests leave: with refusals 1 to 7 passed, the question is accepted and there is room, so the columns, the moves and the area are as the
--- functions below the calls ask for them.
+-- functions below the calls ask for them; with refusal 8 passed too, the area is the right one.
 use Prim.Native.Nat.{ℕ, suc, _-_, _*_, _≤_}
 use mathlib.Core.Path.{_≡_, refl}
 use mathlib.Core.List.{List}
@@ -10,20 +10,27 @@ use Rattle.walk.specs.declared.Network as network
 use Rattle.walk.specs.declared.Condition as condition
 use Rattle.walk.specs.declared.Ask.{Ask}
 use Rattle.walk.specs.declared.Move.{Move}
-use Rattle.walk.specs.Question.{Question, pairs}
-use Rattle.walk.specs.Refusals.{start-tests}
+use Rattle.walk.specs.Question.{Question, pairs, right}
+use Rattle.walk.specs.Refusals.{start-tests, round-tests}
 use Rattle.walk.specs.Demands.{Accepted}
 use Rattle.walk.specs.Answers.{conditionOf, question}
-use Rattle.walk.proofs.Refusals.{accepted-law, start-passes}
+use Rattle.walk.proofs.Refusals.{accepted-law, start-passes, round-passes}
 use Rattle.tables.specs.declared.tests.Verdict.the-variants.{Passed}
 use Rattle.tables.specs.Tests.{firstGiven}
 use Rattle.tables.specs.Steps.{InRange, Filled}
 use Rattle.tables.proofs.Verdicts.{passed-none}
-use Rattle.rounds.specs.Judged.{Lent, Turns}
-use Rattle.rounds.specs.declared.Prepared.{Prepared}
+use Rattle.rounds.specs.Judged.{Lent}
 
 pub accepted : (D : Question) (w : List ℕ) → firstGiven (start-tests D w) ≡ Passed → Accepted D × (pairs D ≤ length w)
 accepted D w e = let (a, b) = start-passes D w .0 (passed-none _ e) in (accepted-law D .0 a, b)
+
+-- with refusal 8 passed too
+pub accepted-right : (D : Question) (r : ℕ) (w : List ℕ) → firstGiven (round-tests D r w) ≡ Passed → Accepted D × (pairs D ≤ length w) × (r ≤ pairs D) ×
+    (take (pairs D) w ≡ right D r)
+accepted-right D r w e =
+    let (s, (few, is-right)) = round-passes D r w .0 (passed-none _ e) in
+    let (a, b) = start-passes D w .0 s in
+    (accepted-law D .0 a, b, few, is-right)
 
 module _ (n : network.Network) (c : condition.Condition) (a : Ask) (from to sets : List ℕ) (m : List Move) (acc : Accepted (question n c a from to sets m)) where
   pub in-range : InRange (n .kinds) (conditionOf c m)
@@ -48,10 +55,10 @@ module _ (n : network.Network) (c : condition.Condition) (a : Ask) (from to sets
 pub cut-all : {A : Type 0} (l : List A) (k : ℕ) → k ≡ length l → take (k - 0) (drop 0 l) ≡ l
 cut-all l k e = take-all (k - 0) l (omega arith)
 
--- what is said of the columns cut to the ties is said of the columns
-module _ {n : network.Network} {c : condition.Condition} {from from′ to to′ sets sets′ : List ℕ} (e : from′ ≡ from) (f : to′ ≡ to) (g : sets′ ≡ sets) where
-  pub lent-cut : {ties : ℕ} {T S A : List ℕ} → Lent n c ties from to sets T S A → Lent n c ties from′ to′ sets′ T S A
-  lent-cut L = rw (e, f, g) L
+-- what holds of the columns cut to the ties holds of the columns, and the other way
+module _ {from from′ to to′ sets sets′ : List ℕ} (e : from′ ≡ from) (f : to′ ≡ to) (g : sets′ ≡ sets) (P : List ℕ → List ℕ → List ℕ → Type 0) where
+  pub of-cut : P from′ to′ sets′ → P from to sets
+  of-cut h = rw (e, f, g) at h
 
-  pub turns-cut : (a : Ask) (T A A′ : List ℕ) (r : ℕ) (x : Prepared) → Turns n c a from′ to′ sets′ T r A x A′ → Turns n c a from to sets T r A x A′
-  turns-cut a T A A′ r x L = rw (e, f, g) at L
+  pub to-cut : P from to sets → P from′ to′ sets′
+  to-cut h = rw (e, f, g) h

@@ -4,5 +4,6 @@ pub mod Judging
 pub mod Lending
 pub mod Meeting
 pub mod Offered
+pub mod Refusing
 pub mod Standing
 pub mod Unique

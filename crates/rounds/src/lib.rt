@@ -1,22 +1,23 @@
-// Preparing by rounds: start and round. Refusals 1 to 7 are the tests of `tables`, refusal 8 is `area::right`, and a round over a right area is
+// Preparing by rounds: start and round. Refusals 1 to 7 are the tests of `tables`, refusals 1 to 8 those of `tests`, and a round over a right area is
 // `advance::advance`.
 
 pub mod advance;
 pub mod area;
 pub mod status;
+pub mod tests;
 
 ghost use mathlib.Core.Path.{_≡_};
-ghost use Prim.Native.Nat.{_<_};
+ghost use Prim.Native.Nat.{_*_, _≤_, _<_};
+ghost use Rattle.walk.specs.Question.{status};
 ghost use Rattle.walk.specs.Refusals.{isGoing};
 ghost use Rattle.walk.specs.Calls.{start, round};
 ghost use Rattle.walk.specs.Answers.{question, Meets};
 ghost use Rattle.tables.specs.Lent.{movesOf};
 ghost use Rattle.rounds.specs.Answers.{saidPrepared};
-ghost use Rattle.rounds.specs.Judged.{Lent, Turns};
+ghost use Rattle.rounds.specs.Judged.{Lent, Every, IsRight, Turns};
+use crate::tests::Stand;
 use tables::numbers::Mark;
-use tables::steps;
 use tables::steps::Steps;
-use tables::tests;
 use tables::tests::Verdict;
 use walk::Ask;
 use walk::Condition;
@@ -58,7 +59,7 @@ impl Rounds {
             (saidPrepared r)
             (now (area .exit)) ⌝ }
     {
-        match tests::tested(
+        match tables::tests::tested(
             network,
             condition,
             ask,
@@ -117,7 +118,10 @@ impl Rounds {
             (saidPrepared r)
             (now (area .exit)) ⌝ }
     {
+        let mut table = [0u32; Steps::WORDS];
+        let mut sources = [0u32; Network::KINDS];
         match tests::tested(
+            self.done,
             network,
             condition,
             ask,
@@ -128,25 +132,16 @@ impl Rounds {
             movefrom,
             movekind,
             moveto,
+            &mut table,
+            &mut sources,
             area,
         ) {
-            Verdict::Refused(name, place) => Prepared::Refused(name, place),
-            Verdict::Passed => {
-                let mut table = [0u32; Steps::WORDS];
-                let mut sources = [0u32; Network::KINDS];
-                steps::fill(
-                    &mut table,
-                    &mut sources,
-                    condition,
-                    network.kinds,
-                    moves,
-                    movefrom,
-                    movekind,
-                    moveto,
-                );
+            Stand::Refused(name, place) => Prepared::Refused(name, place),
+            Stand::At(found) => {
                 let ties = from.len();
                 turn(
                     self.done,
+                    found,
                     network,
                     condition,
                     ask,
@@ -173,9 +168,10 @@ fn going(found: Status) -> bool
     }
 }
 
-// A round on what passed refusals 1 to 7, with the columns cut to the ties.
+// A round on what passed refusals 1 to 8, with the status found and the columns cut to the ties.
 fn turn(
     done: usize,
+    found: Status,
     network: Network,
     condition: Condition,
     ask: Ask,
@@ -188,34 +184,16 @@ fn turn(
     area: &mut [u16],
 ) -> Prepared
     requires { ⌜ Lent network condition ties (now from) (now to) (now kinds) (now table) (now sources) (now area)
-        × (ask .from < network .marks) × (ask .to < network .marks) ⌝ }
+        × (ask .to < network .marks) × (done ≤ network .marks * condition .states)
+        × IsRight network condition ask (now from) (now to) (now kinds) (now table) done (now area)
+        × Every network condition ask (now from) (now to) (now kinds) (now table) (λ D. found ≡ status D done) ⌝ }
     ensures { λ r. ⌜ Turns network condition ask (now (from .entry)) (now (to .entry)) (now (kinds .entry)) (now (table .entry)) done
         (now (area .entry)) r (now (area .exit)) ⌝ }
 {
-    if done > tests::pairs(network.marks, condition.states) {
-        return Prepared::Refused(Refusal::WrongArea, 0);
-    }
-    let r = done as u16;
-    if !area::right(
-        network,
-        condition,
-        ask,
-        r,
-        ties,
-        from,
-        to,
-        kinds,
-        table,
-        sources,
-        area,
-    ) {
-        return Prepared::Refused(Refusal::WrongArea, 0);
-    }
-    let t = Mark::tested(ask.to, network.marks);
-    let found = status::status(area, network.marks, condition, t, r);
     if !going(found) {
         return Prepared::After(Rounds { done: done }, found);
     }
+    let r = done as u16;
     advance::advance(
         network,
         condition,
@@ -231,6 +209,12 @@ fn turn(
     );
     Prepared::After(
         Rounds { done: done + 1 },
-        status::status(area, network.marks, condition, t, r + 1),
+        status::status(
+            area,
+            network.marks,
+            condition,
+            Mark::tested(ask.to, network.marks),
+            r + 1,
+        ),
     )
 }

@@ -105,8 +105,7 @@ given-before (x ∷ l) k n p e = go (x .given) refl e (λ f. given-before l k n 
     go true g f ih = rw g f
     go false g f ih = rw g (ih f)
 
-module _ {A B : Type 0} (w : B) (d : Done A B) where
-  pub judged-behind : (l k : List Row) → NoneGiven l → judged (l ++ k) w d ≡ judged k w d
-  unfolding judged
-  judged-behind [] k h = refl
-  judged-behind (x ∷ l) k h = rw (h x (List·Memᴰ·head refl)) (judged-behind l k (λ y m. h y (List·Memᴰ·tail m)))
+pub given-behind : (l k : List Row) → NoneGiven l → firstGiven (l ++ k) ≡ firstGiven k
+unfolding firstGiven
+given-behind [] k h = refl
+given-behind (x ∷ l) k h = rw (h x (List·Memᴰ·head refl)) (given-behind l k (λ y m. h y (List·Memᴰ·tail m)))

@@ -114,7 +114,7 @@ module _ (N : Network) (C : Condition) (s t r : ℕ) where
   unfolding back
   back-small e i S = set-small _ _
 
-  end-in : (n q : ℕ) → Yes (has (atEnd n) q) → (word N C s r t q ≡ n) × Yes (accepts C q)
+  pub end-in : (n q : ℕ) → Yes (has (atEnd n) q) → (word N C s r t q ≡ n) × Yes (accepts C q)
   unfolding atEnd
   end-in n q h = let (_, x) = set-in _ _ q h in let (w, a) = and-in _ _ x in (eqb-true _ _ w, a)
 
