@@ -54,7 +54,12 @@ pub fn tested(
     table: &mut [u32; Steps::WORDS],
     area: &[u16],
     room: usize,
-) -> Asked {
+) -> Asked
+    requires { ⌜ Clear (now table) (ceilings .kinds * ceilings .states) ⌝ }
+    ensures { λ r. ⌜ Asks (question network condition ask (now (from .entry)) (now (to .entry)) (now (kinds .entry))
+        (movesOf moves (now (movefrom .entry)) (now (movekind .entry)) (now (moveto .entry)))) done (now (area .entry)) room
+        (now (table .exit)) r ⌝ }
+{
     let mut sources = [0u32; Network::KINDS];
     match rounds::tests::tested(
         done,

@@ -12,25 +12,33 @@ use Rattle.walk.specs.declared.Ask.{Ask}
 use Rattle.walk.specs.declared.Move.{Move}
 use Rattle.walk.specs.Question.{Question, pairs, right}
 use Rattle.walk.specs.Refusals.{start-tests, round-tests}
-use Rattle.walk.specs.Demands.{Accepted}
+use Rattle.walk.specs.Demands.{NoneGiven, Accepted}
 use Rattle.walk.specs.Answers.{conditionOf, question}
 use Rattle.walk.proofs.Refusals.{accepted-law, start-passes, round-passes}
 use Rattle.tables.specs.declared.tests.Verdict.the-variants.{Passed}
 use Rattle.tables.specs.Tests.{firstGiven}
+use Rattle.tables.specs.Runs.{Rising}
 use Rattle.tables.specs.Steps.{InRange, Filled}
 use Rattle.tables.proofs.Verdicts.{passed-none}
+use Rattle.rows.specs.Rows.{Sized}
+use Rattle.rows.specs.Offers.{TiesIn}
 use Rattle.rounds.specs.Judged.{Lent}
 
 pub accepted : (D : Question) (w : List ℕ) → firstGiven (start-tests D w) ≡ Passed → Accepted D × (pairs D ≤ length w)
 accepted D w e = let (a, b) = start-passes D w .0 (passed-none _ e) in (accepted-law D .0 a, b)
 
 -- with refusal 8 passed too
-pub accepted-right : (D : Question) (r : ℕ) (w : List ℕ) → firstGiven (round-tests D r w) ≡ Passed → Accepted D × (pairs D ≤ length w) × (r ≤ pairs D) ×
-    (take (pairs D) w ≡ right D r)
-accepted-right D r w e =
-    let (s, (few, is-right)) = round-passes D r w .0 (passed-none _ e) in
+abbrev AcceptedRight : Question → ℕ → List ℕ → Type 0
+AcceptedRight D r w = Accepted D × (pairs D ≤ length w) × (r ≤ pairs D) × (take (pairs D) w ≡ right D r)
+
+pub none-right : (D : Question) (r : ℕ) (w : List ℕ) → NoneGiven (round-tests D r w) → AcceptedRight D r w
+none-right D r w h =
+    let (s, (few, is-right)) = round-passes D r w .0 h in
     let (a, b) = start-passes D w .0 s in
     (accepted-law D .0 a, b, few, is-right)
+
+pub accepted-right : (D : Question) (r : ℕ) (w : List ℕ) → firstGiven (round-tests D r w) ≡ Passed → AcceptedRight D r w
+accepted-right D r w e = none-right D r w (passed-none _ e)
 
 module _ (n : network.Network) (c : condition.Condition) (a : Ask) (from to sets : List ℕ) (m : List Move) (acc : Accepted (question n c a from to sets m)) where
   pub in-range : InRange (n .kinds) (conditionOf c m)
@@ -43,13 +51,17 @@ module _ (n : network.Network) (c : condition.Condition) (a : Ask) (from to sets
     to-in = λ j h. acc .move j h .to;
   }
 
+  pub sized : (A : List ℕ) → n .marks * c .states ≤ length A → Sized (n .marks) (n .kinds) (c .states) A
+  sized A room = record { few = acc .sizes .marks .1; kinds-few = acc .sizes .kinds .1; narrow = acc .condition .states .1; room = room }
+
+  pub ties-in : TiesIn (n .marks) (n .kinds) (length from) from sets
+  ties-in = record { froms = refl; kind-sets = acc .sizes .columns .1; from-in = λ e h. acc .tie e h .from; kind-in = λ e h. acc .tie e h .kinds }
+
+  pub rising : Rising to (length from) (n .marks)
+  rising = record { size = acc .sizes .columns .0; mark-in = λ e h. acc .tie e h .to; rises = λ e h. acc .order (suc e) h e refl }
+
   pub lent : (T S A : List ℕ) → Filled T S (conditionOf c m) → n .marks * c .states ≤ length A → Lent n c (length from) from to sets T S A
-  lent T S A F room = record {
-    size = record { few = acc .sizes .marks .1; kinds-few = acc .sizes .kinds .1; narrow = acc .condition .states .1; room = room };
-    columns = record { froms = refl; kind-sets = acc .sizes .columns .1; from-in = λ e h. acc .tie e h .from; kind-in = λ e h. acc .tie e h .kinds };
-    rising = record { size = acc .sizes .columns .0; mark-in = λ e h. acc .tie e h .to; rises = λ e h. acc .order (suc e) h e refl };
-    leads = F .leads;
-  }
+  lent T S A F room = record { size = sized A room; columns = ties-in; rising = rising; leads = F .leads }
 
 -- a part that is the whole
 pub cut-all : {A : Type 0} (l : List A) (k : ℕ) → k ≡ length l → take (k - 0) (drop 0 l) ≡ l

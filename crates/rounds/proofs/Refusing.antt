@@ -26,7 +26,7 @@ use Rattle.rounds.specs.declared.tests.Stand.{Stand}
 use Rattle.rounds.specs.declared.tests.Stand.the-variants as stand
 use Rattle.rounds.specs.Judged.{Judges, Every, IsRight, Stood}
 use Rattle.rounds.proofs.Judging.{right-by-table}
-use Rattle.rounds.proofs.Lending.{accepted, accepted-right, lent}
+use Rattle.rounds.proofs.Lending.{accepted, accepted-right, sized}
 use Rattle.rounds.proofs.Standing.{standing-is}
 
 module _ (D : Question) (r : ℕ) (w : List ℕ) where
@@ -62,7 +62,7 @@ module _ (n : network.Network) (c : condition.Condition) (a : Ask) (from to sets
   pub every-list : (s : Status) → Judges D r A T S (stand.At s) → IsRight n c a from to sets T r A × Every n c a from to sets T (λ D. s ≡ status D r)
   every-list s (e, f, F) =
       let (acc, room, few, is-right) = accepted-right D r A e in
-      let size = lent n c a from to sets m acc T S A F room .size in
+      let size = sized n c a from to sets m acc A room in
       let R = right-by-table n c a from to sets T A r size (let k = ready D acc .few in omega arith) m (F .tabled) acc is-right in (
         R,
         λ m′ tab acc′. f ∙ sym (standing-is D r A is-right room (a .to) refl (acc .ends .1))

@@ -1,0 +1,168 @@
+-- Where the tests refuse, their row answers; with no chain there is none to give; where a length is found, the columns are cut to the ties and the
+-- smallest ties are filled in.
+use Prim.Native.Nat.{ℕ, _≤_, _<_}
+use mathlib.Core.Path.{_≡_, refl, sym, subst}
+use mathlib.Core.List.{List}
+use native.Mathlib.Omega.{arith}
+use lib.ListN.{length, drop}
+use borrow.Author.Needs.{needs}
+use Rattle.walk.specs.Ceilings.{ceilings}
+use Rattle.walk.specs.Question.{Question}
+use Rattle.walk.specs.Refusals.{first-tests}
+use Rattle.walk.specs.Answers.{networkOf, question}
+use Rattle.walk.proofs.Back.{fill}
+use Rattle.tables.specs.declared.tests.Verdict.the-variants.{Passed}
+use Rattle.tables.specs.Lent.{movesOf}
+use Rattle.tables.specs.Tests.{firstGiven}
+use Rattle.tables.proofs.StepLaws.{clear-new}
+use Rattle.tables.proofs.Verdicts.{passed-none}
+use Rattle.rounds.proofs.Lending.{cut-all, of-cut, to-cut}
+use Rattle.back.specs.Over.{overTie, endsAt, Ready}
+use Rattle.back.specs.Chain.{Fillable}
+use Rattle.chains.specs.declared.tests.Asked.{Asked}
+use Rattle.chains.specs.declared.tests.Asked.the-variants.{Found}
+use Rattle.chains.specs.Asking.{Asks}
+use Rattle.chains.proofs.AskLaws.{first-refused, first-none, prepared, room-for, ready-of}
+use Rattle.chains.proofs.Listing.{Prepared, length-few, first-fillable, first-meets}
+use Rattle.chains.proofs.first.Statement.{statement}
+use Rattle.chains.proofs.first.Tie as tie
+
+-- where the function started, and what it is asked
+abbrev start : tie.After-tested → tie.Start
+start c = c .before .before .before .before .before .before .before
+
+abbrev asked : tie.After-tested → Question
+asked c =
+    let A = start c .args in
+    question (A .network) (A .condition) (A .ask) (A .from .now) (A .to .now) (A .kinds .now) (movesOf (A .moves) (A .movefrom .now) (A .movekind .now) (A .moveto .now))
+
+-- the step table, as the tests leave it
+abbrev table : tie.After-tested → List ℕ
+table c = c .tested .last .1 .1 .1 .1 .1 .1 .1 .1 .1 .1 .1 .0
+
+-- what the tests left
+left : (c : tie.After-tested) (x : Asked) → c .tested .result ≡ x
+    → let A = start c .args in Asks (asked c) (A .rounds .done) (A .area .now) (length (A .chain .now)) (table c) x
+left c x e =
+    let A = start c .args in
+    subst (λ (y : Asked). Asks (asked c) (A .rounds .done) (A .area .now) (length (A .chain .now)) (table c) y) e (c .tested .ensures)
+
+-- where a length is found
+found : (c : tie.After-n) → let t = c .before .before in let A = start t .args in
+    Asks (asked t) (A .rounds .done) (A .area .now) (length (A .chain .now)) (table t) (Found (c .n .given .0 .0))
+found c = left (c .before .before) _ (c .n .given .1)
+
+passed : (c : tie.After-n) → let t = c .before .before in let A = start t .args in
+    firstGiven (first-tests (asked t) (A .rounds .done) (A .area .now) (A .chain .now)) ≡ Passed
+passed c = found c .0 _ refl
+
+ready : (c : tie.After-n) → let t = c .before .before in let A = start t .args in Prepared (asked t) (A .rounds .done) (A .area .now) (table t) (c .n .given .0 .0)
+ready c = prepared _ _ _ _ (passed c) _ _ (found c .1) (found c .2)
+
+-- the other columns are as long as the first
+columns : (c : tie.After-n) → let A = start (c .before .before) .args in (length (A .from .now) ≡ length (A .to .now)) ×
+    (length (A .from .now) ≡ length (A .kinds .now))
+columns c = let S = ready c .accepted .sizes .columns in (sym (S .0), sym (S .1))
+
+tested-requires : tie.Need-tested-requires
+tested-requires c κs = clear-new 1024
+
+enum-known-name : tie.Need-enum-known-name
+enum-known-name c = search needs
+
+enum-told : tie.Need-enum-told
+enum-told c = search needs
+
+enum-known-n : tie.Need-enum-known-n
+enum-known-n c = search needs
+
+sub-earliest : tie.Need-sub-earliest
+sub-earliest c = search needs
+
+part-earliest-start : tie.Need-part-earliest-start
+part-earliest-start c = search needs
+
+part-earliest-end : tie.Need-part-earliest-end
+part-earliest-end c = search needs
+
+sub-earliest-2 : tie.Need-sub-earliest-2
+sub-earliest-2 c = search needs
+
+part-earliest-start-2 : tie.Need-part-earliest-start-2
+part-earliest-start-2 c = search needs
+
+part-earliest-end-2 : tie.Need-part-earliest-end-2
+part-earliest-end-2 c = let (e, _) = columns (c .before .before) in omega arith
+
+sub-earliest-3 : tie.Need-sub-earliest-3
+sub-earliest-3 c = search needs
+
+part-earliest-start-3 : tie.Need-part-earliest-start-3
+part-earliest-start-3 c = search needs
+
+part-earliest-end-3 : tie.Need-part-earliest-end-3
+part-earliest-end-3 c = let (_, e) = columns (c .before .before .before) in omega arith
+
+earliest-requires : tie.Need-earliest-requires
+earliest-requires c κs =
+    let f = c .before .before .before .before .before .before in
+    let t = f .before .before in
+    let A = start t .args in
+    let n = f .n .given .0 .0 in
+    let (g, h) = columns f in
+    let P = ready f in
+    to-cut (cut-all (A .from .now) _ refl) (cut-all (A .to .now) _ g) (cut-all (A .kinds .now) _ h)
+    (λ x y z. Ready (A .network) (A .condition .states) (length (A .from .now)) x y z (A .area .now)
+    × (A .ask .to < A .network .marks) × (n < ceilings .unreached) × (n ≤ length (A .chain .now))
+    × Fillable (networkOf (A .network) x y z) (overTie (table t) (A .area .now) (A .condition .states) x z) n (A .ask .to) (endsAt (A .area .now) (A .condition .states) (A .ask .to) (A .condition .accept) n)) (
+      ready-of (A .network) (A .condition) (A .ask) (A .from .now) (A .to .now) (A .kinds .now) _ (A .area .now) (P .accepted) (P .long),
+      P .accepted .ends .1,
+      length-few _ _ _ _ _ P,
+      room-for _ _ _ _ (passed f) _ (found f .1),
+      first-fillable _ _ _ _ _ P,
+    )
+
+returns : tie.Need-returns
+returns c = first-refused _ _ _ _ _ _ (left (c .before .before .before) _ (c .before .name .given .1) _ refl)
+
+returns-2 : tie.Need-returns-2
+returns-2 c = let (p, e) = left (c .before .before) _ (c .enum-told .given .1) in first-none _ _ _ _ (p _ refl) e
+
+same-length : tie.Need-same-length
+same-length c = search needs
+
+returns-3 : tie.Need-returns-3
+returns-3 c =
+    let f = c .before .before .before .before .before .before .before .before .before in
+    let t = f .before .before in
+    let A = start t .args in
+    let n = f .n .given .0 .0 in
+    let (g, h) = columns f in
+    let P = ready f in
+    let u = c .before .before in
+    first-meets _ _ _ _ _ P (A .chain .now) _ (passed-none _ (passed f))
+    (of-cut (cut-all (A .from .now) _ refl) (cut-all (A .to .now) _ g) (cut-all (A .kinds .now) _ h)
+    (λ x y z. u .earliest .last .1 .1 .1 .1 .1 .1 .1 .1 .1 .1 .0 ≡ fill (networkOf (A .network) x y z) (overTie (table t) (A .area .now) (A .condition .states) x z) n (A .ask .to) (endsAt (A .area .now) (A .condition .states) (A .ask .to) (A .condition .accept) n) (drop n (A .chain .now))) (u .earliest .ensures))
+
+pub first-spec : {M : Type 1} → statement M
+first-spec =
+    tie.close
+    (tie.spec
+    tested-requires
+    enum-known-name
+    enum-told
+    enum-known-n
+    sub-earliest
+    part-earliest-start
+    part-earliest-end
+    sub-earliest-2
+    part-earliest-start-2
+    part-earliest-end-2
+    sub-earliest-3
+    part-earliest-start-3
+    part-earliest-end-3
+    earliest-requires
+    returns
+    returns-2
+    same-length
+    returns-3)
