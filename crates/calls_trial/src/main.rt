@@ -130,11 +130,10 @@ fn followed(said: &mut [u8; 128], n: Next) {
     }
 }
 
-// The words of a buffer, from word i of the answer on.
-fn words(said: &mut [u8; 128], i: usize, buffer: &[u16])
-    requires { ⌜ i + length (now buffer) ≤ 64 ⌝ }
+// The first n words of a buffer, from word i of the answer on.
+fn words(said: &mut [u8; 128], i: usize, buffer: &[u16; 40], n: usize)
+    requires { ⌜ (n ≤ 40) × (i + n ≤ 64) ⌝ }
 {
-    let n = buffer.len();
     let mut j = 0;
     while j < n {
         put(said, i + j, wide_word(buffer[j]));
@@ -149,7 +148,7 @@ fn least(a: usize, b: usize) -> usize
 }
 
 // What is lent by value, with the number of moves and the count.
-struct Lent {
+struct Given {
     network: Network,
     condition: Condition,
     ask: Ask,
@@ -157,8 +156,8 @@ struct Lent {
     before: Rounds,
 }
 
-fn lent(asked: &[u8; 384]) -> Lent {
-    Lent {
+fn lent(asked: &[u8; 384]) -> Given {
+    Given {
         network: Network {
             marks: word(asked, 1),
             kinds: word(asked, 2),
@@ -181,7 +180,7 @@ fn lent(asked: &[u8; 384]) -> Lent {
 
 fn prepare(
     name: usize,
-    l: Lent,
+    l: Given,
     from: &[u16],
     to: &[u16],
     kinds: &[u32],
@@ -222,9 +221,8 @@ fn prepare(
 }
 
 fn call(
+    asked: &[u8; 384],
     said: &mut [u8; 128],
-    name: usize,
-    l: Lent,
     from: &[u16],
     to: &[u16],
     kinds: &[u32],
@@ -234,6 +232,8 @@ fn call(
     area: &mut [u16],
     chain: &mut [u16],
 ) {
+    let name = word(asked, 0);
+    let l = lent(asked);
     if name == 2 {
         let f = chains::first(
             l.before,
@@ -276,43 +276,58 @@ fn call(
     prepared(said, p);
 }
 
-fn turn(asked: &[u8; 384], said: &mut [u8; 128]) {
+fn with_ties(
+    asked: &[u8; 384],
+    said: &mut [u8; 128],
+    movefrom: &[u16; Condition::MOVES],
+    movekind: &[u16; Condition::MOVES],
+    moveto: &[u16; Condition::MOVES],
+    area: &mut [u16],
+    chain: &mut [u16],
+) {
     let mut from = [0u16; 16];
     column(asked, 18, &mut from, 16);
     let mut to = [0u16; 16];
     column(asked, 34, &mut to, 16);
     let mut kinds = [0u32; 16];
     sets(asked, 50, &mut kinds, 16);
+    let f = least(word(asked, 6), 16);
+    let t = least(word(asked, 7), 16);
+    let k = least(word(asked, 8), 16);
+    call(
+        asked,
+        said,
+        &from[0..f],
+        &to[0..t],
+        &kinds[0..k],
+        movefrom,
+        movekind,
+        moveto,
+        area,
+        chain,
+    );
+}
+
+fn with_moves(asked: &[u8; 384], said: &mut [u8; 128], area: &mut [u16], chain: &mut [u16]) {
     let mut movefrom = [0u16; Condition::MOVES];
     column(asked, 82, &mut movefrom, 12);
     let mut movekind = [0u16; Condition::MOVES];
     column(asked, 94, &mut movekind, 12);
     let mut moveto = [0u16; Condition::MOVES];
     column(asked, 106, &mut moveto, 12);
+    with_ties(asked, said, &movefrom, &movekind, &moveto, area, chain);
+}
+
+fn turn(asked: &[u8; 384], said: &mut [u8; 128]) {
     let mut area = [0u16; 40];
     column(asked, 118, &mut area, 40);
-    let mut chain = [0u16; 12];
+    let mut chain = [0u16; 40];
     column(asked, 158, &mut chain, 12);
-    let f = least(word(asked, 6), 16);
-    let t = least(word(asked, 7), 16);
-    let k = least(word(asked, 8), 16);
     let a = least(word(asked, 10), 40);
     let c = least(word(asked, 11), 12);
-    call(
-        said,
-        word(asked, 0),
-        lent(asked),
-        &from[0..f],
-        &to[0..t],
-        &kinds[0..k],
-        &movefrom,
-        &movekind,
-        &moveto,
-        &mut area[0..a],
-        &mut chain[0..c],
-    );
-    words(said, 8, &area[0..40]);
-    words(said, 48, &chain[0..12]);
+    with_moves(asked, said, &mut area[0..a], &mut chain[0..c]);
+    words(said, 8, &area, 40);
+    words(said, 48, &chain, 12);
 }
 
 fn say(said: &[u8; 128]) {

@@ -1,8 +1,8 @@
 -- The loop ends after a million calls at the latest.
 use Prim.Native.Nat.{_-_, _≤_}
 use borrow.Author.Needs.{needs}
-use Rattle.rounds_trial.proofs.main.Statement.{statement}
-use Rattle.rounds_trial.proofs.main.Tie as tie
+use Rattle.calls_trial.proofs.main.Statement.{statement}
+use Rattle.calls_trial.proofs.main.Tie as tie
 
 abbrev Inv-loop : tie.InvT-loop
 Inv-loop turns₀ turns = turns ≤ 1000000

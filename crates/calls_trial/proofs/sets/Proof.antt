@@ -4,8 +4,8 @@ use mathlib.Core.Path.{_≡_, _∙_}
 use native.Mathlib.Omega.{arith}
 use lib.ListN.{length, length-set}
 use borrow.Author.Needs.{needs}
-use Rattle.rounds_trial.proofs.sets.Statement.{statement}
-use Rattle.rounds_trial.proofs.sets.Tie as tie
+use Rattle.calls_trial.proofs.sets.Statement.{statement}
+use Rattle.calls_trial.proofs.sets.Tie as tie
 
 abbrev Inv-loop : tie.InvT-loop
 Inv-loop asked i words₀ n j₀ words j = (j ≤ n) × (length words ≡ length words₀)

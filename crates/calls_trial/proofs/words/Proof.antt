@@ -1,14 +1,14 @@
--- The loop writes 40 words; the measure is how many are left.
+-- The loop writes n words; the measure is how many are left.
 use Prim.Native.Nat.{_-_, _≤_}
 use borrow.Author.Needs.{needs}
-use Rattle.rounds_trial.proofs.area_words.Statement.{statement}
-use Rattle.rounds_trial.proofs.area_words.Tie as tie
+use Rattle.calls_trial.proofs.words.Statement.{statement}
+use Rattle.calls_trial.proofs.words.Tie as tie
 
 abbrev Inv-loop : tie.InvT-loop
-Inv-loop said₀ area j₀ said j = j ≤ 40
+Inv-loop said₀ i buffer n j₀ said j = j ≤ n
 
 abbrev μ-loop : tie.MeasureT-loop
-μ-loop said₀ area j₀ said j = 40 - j
+μ-loop said₀ i buffer n j₀ said j = n - j
 
 loop-holds : tie.Need-loop-holds Inv-loop μ-loop
 loop-holds c = search needs
@@ -40,8 +40,8 @@ loop-again c = search needs
 returns : tie.Need-returns Inv-loop μ-loop
 returns c = search needs
 
-pub area-words-spec : {M : Type 1} → statement M
-area-words-spec =
+pub words-spec : {M : Type 1} → statement M
+words-spec =
     tie.close
     (tie.spec
     Inv-loop
