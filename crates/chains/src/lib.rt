@@ -12,6 +12,8 @@ ghost use Rattle.walk.specs.Answers.{networkOf, question, saidFirst, saidNext, 
 ghost use Rattle.walk.proofs.Sets.{nonempty};
 ghost use Rattle.walk.proofs.Back.{fill};
 ghost use Rattle.tables.specs.Lent.{movesOf};
+ghost use Rattle.tables.specs.Entries.{Entered};
+ghost use Rattle.rows.specs.Rows.{Sized};
 ghost use Rattle.back.specs.Over.{overTie, endsAt, Ready};
 ghost use Rattle.back.specs.Chain.{Fillable};
 ghost use Rattle.chains.specs.Following.{raisedIn, Raises, Raisable, seenIn, Followed};
@@ -163,6 +165,24 @@ pub fn next(
     }
 }
 
+// The mark t and the states alive there: the accepting ones with the word n.
+pub struct AtEnd {
+    pub mark: Mark,
+    pub states: u32,
+}
+
+fn at_end(network: Network, condition: Condition, ask: Ask, area: &[u16], n: usize) -> AtEnd
+    requires { ⌜ Sized (network .marks) (network .kinds) (condition .states) (now area) × (ask .to < network .marks) × (n < ceilings .unreached) ⌝ }
+    ensures { λ r. ⌜ Entered (r .mark .0) (ask .to) (network .marks)
+        × (r .states ≡ endsAt (now (area .entry)) (condition .states) (ask .to) (condition .accept) n) ⌝ }
+{
+    let t = Mark::tested(ask.to, network.marks);
+    AtEnd {
+        mark: t,
+        states: step::ends(area, network.marks, condition, t, n as u16),
+    }
+}
+
 // The earliest chain of length n, where there is one, over a right area.
 fn earliest(
     network: Network,
@@ -185,8 +205,7 @@ fn earliest(
         (overTie (now (table .entry)) (now (area .entry)) (condition .states) (now (from .entry)) (now (kinds .entry))) n (ask .to)
         (endsAt (now (area .entry)) (condition .states) (ask .to) (condition .accept) n) (drop n (now (chain .entry))) ⌝ }
 {
-    let t = Mark::tested(ask.to, network.marks);
-    let end = step::ends(area, network.marks, condition, t, n as u16);
+    let end = at_end(network, condition, ask, area, n);
     fill::before(
         from,
         to,
@@ -197,8 +216,8 @@ fn earliest(
         condition.states,
         ties,
         n,
-        t,
-        end,
+        end.mark,
+        end.states,
         chain,
     );
 }
@@ -228,8 +247,7 @@ fn later(
         (overTie (now (table .entry)) (now (area .entry)) (condition .states) (now (from .entry)) (now (kinds .entry))) n (ask .to)
         (endsAt (now (area .entry)) (condition .states) (ask .to) (condition .accept) n) (now (chain .entry)) r (now (chain .exit)) ⌝ }
 {
-    let t = Mark::tested(ask.to, network.marks);
-    let end = step::ends(area, network.marks, condition, t, n as u16);
+    let end = at_end(network, condition, ask, area, n);
     match look::look(
         from,
         to,
@@ -240,8 +258,8 @@ fn later(
         condition.states,
         ties,
         &chain[0..n],
-        t,
-        end,
+        end.mark,
+        end.states,
     ) {
         Seen::Unlisted => Next::Refused(Refusal::NotListed, 0),
         Seen::Last => Next::End,

@@ -1,6 +1,6 @@
 -- What the look at the first words sees says what is answered, and what is raised.
 use Prim.Native.Nat.{ℕ, _-_}
-use mathlib.Core.Path.{_≡_, ap, _∙_}
+use mathlib.Core.Path.{_≡_}
 use native.Mathlib.Omega.{arith}
 use lib.Seq.{length-take-le}
 use borrow.Author.Needs.{needs}
@@ -19,22 +19,8 @@ net S = networkOf (S .args .network) (S .args .from .now) (S .args .to .now) (S 
 abbrev step : tie.Start → ℕ → ℕ → ℕ → ℕ
 step S = overTie (S .args .table .now) (S .args .area .now) (S .args .condition .states) (S .args .from .now) (S .args .kinds .now)
 
-tested-requires : tie.Need-tested-requires
-tested-requires c κs = c .before .before .before .before .before .pre .1
-
-cast-ends : tie.Need-cast-ends
-cast-ends c = let P = c .before .before .before .before .before .before .pre in omega (arith, P .2)
-
-ends-requires : tie.Need-ends-requires
-ends-requires c κs =
-    let P = c .before .before .before .before .before .before .pre in
-    (c .tested .ensures .below, P .0 .size .few, P .0 .size .narrow, P .0 .size .room, P .2)
-
--- the set alive at t
-end-is : (c : tie.After-ends) → let A = c .before .before .before .before .before .before .before .args in c .ends .result ≡ endsAt (A .area .now) (A .condition .states) (A .ask .to) (A .condition .accept) (A .n)
-end-is c =
-    let A = c .before .before .before .before .before .before .before .args in
-    c .ends .ensures ∙ ap (λ (t : ℕ). endsAt (A .area .now) (A .condition .states) t (A .condition .accept) (A .n)) (c .before .tested .ensures .is)
+at-end-requires : tie.Need-at-end-requires
+at-end-requires c κs = search needs
 
 sub-look : tie.Need-sub-look
 sub-look c = search needs
@@ -43,23 +29,25 @@ part-look-start : tie.Need-part-look-start
 part-look-start c = search needs
 
 part-look-end : tie.Need-part-look-end
-part-look-end c = c .before .before .before .before .before .before .before .before .pre .3
+part-look-end c = search needs
 
 look-requires : tie.Need-look-requires
 look-requires c κs =
-    let S = c .before .before .before .before .before .before .before .before .before in
+    let S = c .before .before .before .before .before .before .before .before in
     let P = S .pre in
     let n = S .args .n in
     let z : n - 0 ≡ n = omega arith in
     let l = length-take-le (n - 0) (S .args .chain .now) (omega (arith, P .3)) in
-    (P .0, c .before .before .before .tested .ensures .below, omega (arith, P .2), rw (end-is (c .before .before)) (P .4))
+    let (t, s) = c .before .before .at-end .ensures in
+    (P .0, t .below, omega (arith, P .2), rw s (P .4))
 
 -- what is seen
-seen-is : (c : tie.After-look) → let S = c .before .before .before .before .before .before .before .before .before .before in c .look .result
+seen-is : (c : tie.After-look) → let S = c .before .before .before .before .before .before .before .before .before in c .look .result
     ≡ seenIn (net S) (step S) (S .args .n) (S .args .ask .to) (endsAt (S .args .area .now) (S .args .condition .states) (S .args .ask .to) (S .args .condition .accept) (S .args .n)) (S .args .chain .now)
 seen-is c =
-    let S = c .before .before .before .before .before .before .before .before .before .before in
-    seen-as (net S) (step S) (S .args .n) (S .args .chain .now) _ (c .before .before .before .before .tested .ensures .is) (end-is (c .before .before .before)) (c .look .ensures)
+    let S = c .before .before .before .before .before .before .before .before .before in
+    let (t, s) = c .before .before .before .at-end .ensures in
+    seen-as (net S) (step S) (S .args .n) (S .args .chain .now) _ (t .is) s (c .look .ensures)
 
 enum-told : tie.Need-enum-told
 enum-told c = search needs
@@ -73,7 +61,7 @@ enum-known-place c = search needs
 raise-requires : tie.Need-raise-requires
 raise-requires c κs =
     let L = c .before .before .before .before in
-    let S = L .before .before .before .before .before .before .before .before .before .before in
+    let S = L .before .before .before .before .before .before .before .before .before in
     let P = S .pre in
     let e = c .before .before .place .given in
     let R = raises-at (net S) (step S) (S .args .n) (S .args .ask .to) _ (S .args .chain .now) _ (seen-is L) (e .0 .0) (e .0 .1 .1 .0) (e .0 .1 .0) (e .1) (P .5) in
@@ -103,9 +91,7 @@ pub later-spec : {M : Type 1} → statement M
 later-spec =
     tie.close
     (tie.spec
-    tested-requires
-    cast-ends
-    ends-requires
+    at-end-requires
     sub-look
     part-look-start
     part-look-end
