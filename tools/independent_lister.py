@@ -6,6 +6,7 @@ trying every row of ties that are joined. It prints a table in the form of crate
 compute from the definitions. On standard error it says how often each answer occurs.
 """
 import collections
+import functools
 import random
 import sys
 
@@ -15,8 +16,9 @@ ROWS = 4096  # more rows of ties than these the prover is not asked to look thro
 Question = collections.namedtuple("Question", "marks kinds froms tos sets states start accept moves s t")
 
 
+@functools.lru_cache(maxsize=None)
 def members(bits):
-    return {i for i in range(32) if bits >> i & 1}
+    return frozenset(i for i in range(32) if bits >> i & 1)
 
 
 def words(q, rounds):

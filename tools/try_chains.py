@@ -68,11 +68,18 @@ def listing(q):
     return Listing(q, found[1], listed) if len(listed) <= 400 else None
 
 
+def likely(shape, chains):
+    """How likely a network is kept: most lists are short, and few chains are worth keeping where there are many ways."""
+    if shape == many_ways:
+        return 0.1
+    return 0.05 if chains <= 1 else 0.1 if chains <= 4 else 0.5 if chains <= 12 else 1
+
+
 def some_listing():
-    """Lists with no chain, with one and with many: few of the first two are kept."""
     while True:
-        made_up = listing(random.choice((anywhere, anywhere, in_a_row, in_a_row, many_ways))())
-        if made_up and random.random() < (1 if len(made_up.listed) > 4 else 0.3 if len(made_up.listed) > 1 else 0.05):
+        shape = random.choice((anywhere, anywhere, in_a_row, in_a_row, in_a_row, in_a_row, many_ways))
+        made_up = listing(shape())
+        if made_up and random.random() < likely(shape, len(made_up.listed)):
             return made_up
 
 

@@ -6,7 +6,7 @@ use mathlib.Core.Bool.{Bool, true, false, cond}
 use mathlib.Core.List.{List, _∷_}
 use native.Mathlib.Omega.{arith}
 use lib.Dec.{ltb}
-use lib.ListN.{length, getD, drop, set, length-set}
+use lib.ListN.{length, drop, set, length-set}
 use lib.Seq.{drop-cons, getD-set-same, drop-set-lt}
 use borrow.Author.Tests.{ltb-true, lt-ltb}
 use Rattle.walk.specs.Network.{Network, ties, fromOf}

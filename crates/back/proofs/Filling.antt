@@ -12,7 +12,7 @@ use lib.Dec.{leb, ltb, leb·zero}
 use lib.ListN.{length, drop}
 use borrow.Author.Tests.{ltb-true}
 use Rattle.walk.specs.Numbers.{has, _and_}
-use Rattle.walk.specs.Network.{Network, ties, fromOf, toOf}
+use Rattle.walk.specs.Network.{Network, ties, fromOf}
 use Rattle.walk.specs.Condition.{Condition}
 use Rattle.walk.specs.Area.{word}
 use Rattle.walk.proofs.Numbers.{Yes, and-in, and-of, eqb-of, least-is, clash}

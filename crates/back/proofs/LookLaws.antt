@@ -24,7 +24,7 @@ use Rattle.tables.specs.Entries.{tieEntry}
 use Rattle.back.specs.declared.pick.Usable.{Usable}
 use Rattle.back.specs.declared.pick.Usable.the-variants.{Tie, None}
 use Rattle.back.specs.declared.look.Seen.{Seen}
-use Rattle.back.specs.declared.look.Seen.the-variants.{Last, At}
+use Rattle.back.specs.declared.look.Seen.the-variants.{Last}
 use Rattle.back.specs.Picked.{picked, stepped}
 use Rattle.back.specs.Chain.{raisedAt, nearest, raiseSeen}
 

@@ -3,16 +3,15 @@
 -- said of the other.
 use Prim.Native.Nat.{ℕ, zero, suc, _+_, _*_, _≤_, _<_}
 use mathlib.Core.Path.{_≡_, refl, sym, ap, ap₂, _∙_, fun-ext}
-use mathlib.Core.Bool.{Bool, true, false, cond}
+use mathlib.Core.Bool.{Bool, true, false}
 use mathlib.Core.List.{List}
 use native.Mathlib.Omega.{arith}
-use lib.Bits.{bitOr}
 use lib.Dec.{ltb, eqb}
-use lib.ListN.{length, getD, List·getD-eq-default}
+use lib.ListN.{getD, List·getD-eq-default}
 use borrow.Author.Tests.{ltb-true, ltb-false}
 use Rattle.walk.specs.Numbers.{has, _and_, anyBelow, setBelow}
 use Rattle.walk.specs.Network.{Network, ties, fromOf, kindsOf}
-use Rattle.walk.specs.Condition.{Condition, accepts, follows}
+use Rattle.walk.specs.Condition.{Condition, accepts}
 use Rattle.walk.specs.Area.{leads, word}
 use Rattle.walk.proofs.Numbers.{Yes, and-in, and-of, anyBelow-in, anyBelow-of, yes-same}
 use Rattle.walk.proofs.Executable.{Sound, leads-in, leads-of, leads-states}

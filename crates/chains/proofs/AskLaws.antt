@@ -12,12 +12,12 @@ use Rattle.walk.specs.declared.Condition as condition
 use Rattle.walk.specs.declared.Ask.{Ask}
 use Rattle.walk.specs.declared.Move.{Move}
 use Rattle.walk.specs.declared.Refusal.{Refusal}
-use Rattle.walk.specs.declared.Refusal.the-variants.{Unfinished, ShortChain, NotListed}
+use Rattle.walk.specs.declared.Refusal.the-variants.{ShortChain, NotListed}
 use Rattle.walk.specs.declared.Status.{Status}
 use Rattle.walk.specs.declared.Status.the-variants.{Found, None, Going}
 use Rattle.walk.specs.Question.{Question, pairs, status}
 use Rattle.walk.specs.Refusals.{number, unfinished, shortChain, notListed, round-tests, list-tests, first-tests, next-tests}
-use Rattle.walk.specs.Calls.{refused, gives, NoChain, earliest, later, first, next}
+use Rattle.walk.specs.Calls.{refused, gives, NoChain, first, next}
 use Rattle.walk.specs.Demands.{NoneGiven, Accepted}
 use Rattle.walk.specs.Answers.{question, Meets}
 use Rattle.walk.proofs.Refusals.{none-append, none-one, judged-none}

@@ -2,8 +2,8 @@
 -- list, a chain goes back all the way exactly if it is listed, and raising the tie nearest the front that can be raised makes the one after it.
 -- The words past the least length follow what is filled, so they stay.
 use Prim.Native.Nat.{ℕ, suc, _*_, _≤_, _<_, _+_}
-use mathlib.Core.Path.{_≡_, refl, sym, subst, subst₂, ap, _∙_}
-use mathlib.Core.Bool.{Bool, true, false, not, false≢true}
+use mathlib.Core.Path.{_≡_, refl, sym, subst, ap, _∙_}
+use mathlib.Core.Bool.{Bool, true, false, false≢true}
 use mathlib.Core.List.{List, [], _∷_, _++_, append-nil, head?, List·Memᴰ}
 use mathlib.Core.Option.{Option, none, some}
 use native.Mathlib.Nat.{add-zero, zero-add}
@@ -14,14 +14,14 @@ use mathlib.Mathlib.Data.Bool.Basic.{eq-false-of-not-eq-true}
 use Rattle.walk.specs.declared.Status.the-variants.{Found}
 use Rattle.walk.specs.declared.Refusal.the-variants.{NotListed}
 use Rattle.walk.specs.declared.Next.{Next}
-use Rattle.walk.specs.Network.{Network, ties, fromOf}
+use Rattle.walk.specs.Network.{Network, fromOf}
 use Rattle.walk.specs.Condition.{Condition}
 use Rattle.walk.specs.Walk.{LeastMatching}
 use Rattle.walk.specs.Area.{word}
 use Rattle.walk.specs.Chains.{member, afterOf}
 use Rattle.walk.specs.Question.{Question, usable, pairs, right, status, listing}
 use Rattle.walk.specs.Refusals.{notListed, first-tests, next-tests}
-use Rattle.walk.specs.Calls.{gives, Chain, End, NoChain, Done, Reply, leave, put, judged, earliest, later, first, next}
+use Rattle.walk.specs.Calls.{gives, Chain, judged, earliest, later, first, next}
 use Rattle.walk.specs.Demands.{NoneGiven, Accepted}
 use Rattle.walk.specs.Answers.{Meets, saidNext}
 use Rattle.walk.proofs.Numbers.{Yes}
@@ -32,18 +32,17 @@ use Rattle.walk.proofs.Areas.{area-right}
 use Rattle.walk.proofs.Order.{member-law}
 use Rattle.walk.proofs.Refusals.{ready, judged-none, none-append, none-one}
 use Rattle.walk.proofs.Demand2.{found-says}
-use Rattle.walk.proofs.Back.{Raise, mark, setAt, fill, fill-ends, goes, raise, raised, completes-law, goes-law}
+use Rattle.walk.proofs.Back.{Raise, setAt, fill, fill-ends, goes, raise, raised, completes-law, goes-law}
 use Rattle.walk.proofs.Back as Back
 use Rattle.walk.proofs.FirstNext.{first-law, next-law}
 use Rattle.tables.specs.Steps.{Tabled}
 use Rattle.tables.specs.declared.tests.Verdict.the-variants as verdict
 use Rattle.tables.specs.Tests.{firstGiven}
 use Rattle.tables.proofs.Verdicts.{refused-answers, given-behind}
-use Rattle.back.specs.declared.look.Seen.{Seen}
 use Rattle.back.specs.Over.{overTie, endsAt}
 use Rattle.back.specs.Chain.{Fillable, raiseSeen, seen}
 use Rattle.back.proofs.StepBack.{same-back, same-end}
-use Rattle.back.proofs.Filling.{fill-append, Raised, raise-is, level-back, level-end, fillable}
+use Rattle.back.proofs.Filling.{fill-append, raise-is, level-back, level-end, fillable}
 use Rattle.chains.specs.Following.{raisedIn, answerOf, leftBy, Raises, Raisable, seenIn, Followed}
 
 -- what the tests leave where the status is Found n: the area is the right one, and T is the step table

@@ -1,6 +1,6 @@
 -- The mark is t, so the states are those alive at t.
 use Prim.Native.Nat.{ℕ}
-use mathlib.Core.Path.{_≡_, ap, _∙_}
+use mathlib.Core.Path.{ap, _∙_}
 use borrow.Author.Needs.{needs}
 use Rattle.back.specs.Over.{endsAt}
 use Rattle.chains.proofs.at_end.Statement.{statement}

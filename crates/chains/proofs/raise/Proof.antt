@@ -1,9 +1,8 @@
 -- The tie is written, and the places before it are filled from the mark that it leaves.
 use Prim.Native.Nat.{ℕ}
-use mathlib.Core.Path.{_≡_, refl, _∙_}
+use mathlib.Core.Path.{refl, _∙_}
 use native.Mathlib.Omega.{arith}
 use lib.ListN.{length-set}
-use borrow.Author.Needs.{needs}
 use Rattle.walk.specs.Network.{Network}
 use Rattle.walk.specs.Answers.{networkOf}
 use Rattle.back.specs.Over.{overTie}

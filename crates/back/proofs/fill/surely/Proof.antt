@@ -1,5 +1,5 @@
 -- Where a usable tie is sure to stand, the answer that there is none cannot come.
-use mathlib.Core.Path.{_≡_, sym, _∙_}
+use mathlib.Core.Path.{sym, _∙_}
 use native.Mathlib.Omega.{arith}
 use borrow.Author.Needs.{needs}
 use Rattle.back.proofs.FillLaws.{surely-is, surely-there}

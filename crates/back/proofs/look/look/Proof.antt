@@ -1,8 +1,8 @@
 -- The loop's invariant: the chain has been walked back to the place i, and all that is kept is that of the rest from there on.
-use Prim.Native.Nat.{ℕ, _-_, _≤_, _<_}
-use mathlib.Core.Path.{_≡_, refl, sym, subst, ap, _∙_}
+use Prim.Native.Nat.{_-_, _≤_, _<_}
+use mathlib.Core.Path.{refl, sym, _∙_}
 use native.Mathlib.Omega.{arith}
-use lib.ListN.{length, drop, getD}
+use lib.ListN.{length}
 use borrow.Author.Needs.{needs}
 use Rattle.walk.specs.Answers.{networkOf}
 use Rattle.back.specs.Over.{overTie}

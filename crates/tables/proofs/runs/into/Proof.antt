@@ -1,8 +1,7 @@
 -- The run of the ties into v lies between two cuts: at v and at the mark after it.
-use Prim.Native.Nat.{ℕ, suc, _+_}
-use mathlib.Core.Path.{_≡_, subst, ap, _∙_}
+use Prim.Native.Nat.{ℕ, _+_}
+use mathlib.Core.Path.{subst, ap, _∙_}
 use native.Mathlib.Numerals.{add-one}
-use native.Mathlib.Omega.{arith}
 use borrow.Author.Needs.{needs}
 use Rattle.tables.specs.Runs.{Cut}
 use Rattle.tables.proofs.runs.into.Statement.{statement}
