@@ -50,10 +50,10 @@ fn stepped(
     match Tie::checked(word as usize, ties) {
         TieEntry::Not => Usable::None,
         TieEntry::Is(e) => {
+            let u = e.leaves(from, network.marks);
             if e.enters(to, network.marks).index() != at.index() {
                 return Usable::None;
             }
-            let u = e.leaves(from, network.marks);
             let before = step::over(table, area, network, states, u, e.kinds(kinds), i, alive);
             if before == 0 {
                 return Usable::None;

@@ -172,7 +172,7 @@ pub struct AtEnd {
 }
 
 fn at_end(network: Network, condition: Condition, ask: Ask, area: &[u16], n: usize) -> AtEnd
-    requires { ⌜ Sized (network .marks) (network .kinds) (condition .states) (now area) × (ask .to < network .marks) × (n < ceilings .unreached) ⌝ }
+    requires { ⌜ Sized (network .marks) (network .kinds) (condition .states) (now area) × (ask .from < network .marks) × (ask .to < network .marks) × (n < ceilings .unreached) ⌝ }
     ensures { λ r. ⌜ Entered (r .mark .0) (ask .to) (network .marks)
         × (r .states ≡ endsAt (now (area .entry)) (condition .states) (ask .to) (condition .accept) n) ⌝ }
 {
@@ -197,7 +197,7 @@ fn earliest(
     n: usize,
     chain: &mut [u16],
 )
-    requires { ⌜ Ready network (condition .states) ties (now from) (now to) (now kinds) (now area) × (ask .to < network .marks) × (n < ceilings .unreached)
+    requires { ⌜ Ready network (condition .states) ties (now from) (now to) (now kinds) (now area) × (ask .from < network .marks) × (ask .to < network .marks) × (n < ceilings .unreached)
         × (n ≤ length (now chain)) × Fillable (networkOf network (now from) (now to) (now kinds))
         (overTie (now table) (now area) (condition .states) (now from) (now kinds)) n (ask .to)
         (endsAt (now area) (condition .states) (ask .to) (condition .accept) n) ⌝ }
@@ -236,7 +236,7 @@ fn later(
     n: usize,
     chain: &mut [u16],
 ) -> Next
-    requires { ⌜ Ready network (condition .states) ties (now from) (now to) (now kinds) (now area) × (ask .to < network .marks) × (n < ceilings .unreached)
+    requires { ⌜ Ready network (condition .states) ties (now from) (now to) (now kinds) (now area) × (ask .from < network .marks) × (ask .to < network .marks) × (n < ceilings .unreached)
         × (n ≤ length (now chain)) × (nonempty (endsAt (now area) (condition .states) (ask .to) (condition .accept) n) ≡ true)
         × Raisable (networkOf network (now from) (now to) (now kinds))
         (overTie (now table) (now area) (condition .states) (now from) (now kinds)) n

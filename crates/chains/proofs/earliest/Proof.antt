@@ -24,7 +24,7 @@ before-requires c κs =
     let S = c .before .before .before .before .before .before .before in
     let P = S .pre in
     let (t, s) = c .before .at-end .ensures in
-    (P .0, t .below, omega (arith, P .2), P .3, fillable-as (net S) (step S) (S .args .n) (t .is) s (P .4))
+    (P .0, t .below, omega (arith, P .3), P .4, fillable-as (net S) (step S) (S .args .n) (t .is) s (P .5))
 
 same-length : tie.Need-same-length
 same-length c = search needs

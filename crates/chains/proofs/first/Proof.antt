@@ -113,9 +113,10 @@ earliest-requires c κs =
     let P = ready f in
     to-cut (cut-all (A .from .now) _ refl) (cut-all (A .to .now) _ g) (cut-all (A .kinds .now) _ h)
     (λ x y z. Ready (A .network) (A .condition .states) (length (A .from .now)) x y z (A .area .now)
-    × (A .ask .to < A .network .marks) × (n < ceilings .unreached) × (n ≤ length (A .chain .now))
+    × (A .ask .from < A .network .marks) × (A .ask .to < A .network .marks) × (n < ceilings .unreached) × (n ≤ length (A .chain .now))
     × Fillable (networkOf (A .network) x y z) (overTie (table t) (A .area .now) (A .condition .states) x z) n (A .ask .to) (endsAt (A .area .now) (A .condition .states) (A .ask .to) (A .condition .accept) n)) (
       ready-of (A .network) (A .condition) (A .ask) (A .from .now) (A .to .now) (A .kinds .now) _ (A .area .now) (P .accepted) (P .long),
+      P .accepted .ends .0,
       P .accepted .ends .1,
       length-few _ _ _ _ _ P,
       room-for _ _ _ _ (passed f) _ (found f .1),
