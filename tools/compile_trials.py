@@ -14,6 +14,7 @@ HERE = pathlib.Path(__file__).resolve().parent.parent
 TRIALS = [
     ("a tie for a mark", "rows", "offers.rt", "place(u, states", "place(e, states", "expected `Mark`, found `Tie`"),
     ("a mark for a tie", "tables", "runs.rt", "let u = Tie::tested(e, ties).enters(", "let u = v.enters(", "no method named `enters` found for type `Mark`"),
+    ("a mark for a tie of a chain", "back", "fill.rt", "chain[i] = e.word()", "chain[i] = at.word()", "no method named `word` found for type `Mark`"),
     ("a kind for a state", "tables", "steps.rt", "put(table, sources, p, k, q)", "put(table, sources, k, k, q)", "expected `State`, found `Kind`"),
     ("a plain number for a state", "rows", "offers.rt", "lower(row, State::tested(n, states), w)", "lower(row, n, w)", "expected `State`, found `usize`"),
     ("a mark made without its entry", "rounds", "area.rt", "Mark::tested(v, network.marks)", "Mark(v)", "its constructor is private"),

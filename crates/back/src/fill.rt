@@ -85,7 +85,8 @@ pub fn before(
         × (n ≤ length (now chain)) × Fillable (networkOf network (now from) (now to) (now kinds))
         (overTie (now table) (now area) states (now from) (now kinds)) n (u .0) alive ⌝ }
     ensures { λ _. ⌜ now (chain .exit) ≡ fill (networkOf network (now (from .entry)) (now (to .entry)) (now (kinds .entry)))
-        (overTie (now (table .entry)) (now (area .entry)) states (now (from .entry)) (now (kinds .entry))) n (u .0) alive (drop n (now (chain .entry))) ⌝ }
+        (overTie (now (table .entry)) (now (area .entry)) states (now (from .entry)) (now (kinds .entry))) n (u .0) alive
+        (drop n (now (chain .entry))) ⌝ }
 {
     let mut i = n;
     let mut at = u;

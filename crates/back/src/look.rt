@@ -101,8 +101,10 @@ pub fn look(
     requires { ⌜ Ready network states ties (now from) (now to) (now kinds) (now area) × (t .0 < network .marks)
         × (length (now chain) ≤ ceilings .unreached) × (nonempty end ≡ true) ⌝ }
     ensures { λ r. ⌜ r ≡ seen
-        (goes (networkOf network (now (from .entry)) (now (to .entry)) (now (kinds .entry))) (overTie (now (table .entry)) (now (area .entry)) states (now (from .entry)) (now (kinds .entry))) (t .0) end 0 (now (chain .entry)))
-        (raise (networkOf network (now (from .entry)) (now (to .entry)) (now (kinds .entry))) (overTie (now (table .entry)) (now (area .entry)) states (now (from .entry)) (now (kinds .entry))) (t .0) end 0 (now (chain .entry))) ⌝ }
+        (goes (networkOf network (now (from .entry)) (now (to .entry)) (now (kinds .entry)))
+        (overTie (now (table .entry)) (now (area .entry)) states (now (from .entry)) (now (kinds .entry))) (t .0) end 0 (now (chain .entry)))
+        (raise (networkOf network (now (from .entry)) (now (to .entry)) (now (kinds .entry)))
+        (overTie (now (table .entry)) (now (area .entry)) states (now (from .entry)) (now (kinds .entry))) (t .0) end 0 (now (chain .entry))) ⌝ }
 {
     let mut i = chain.len();
     let mut at = t;

@@ -22,7 +22,6 @@ use Rattle.walk.specs.Demands.{NoneGiven, Accepted}
 use Rattle.walk.specs.Answers.{question, Meets}
 use Rattle.walk.proofs.Refusals.{none-append, none-one, judged-none}
 use Rattle.tables.specs.declared.tests.Verdict.the-variants as verdict
-use Rattle.tables.specs.Steps.{Tabled}
 use Rattle.tables.specs.Tests.{firstGiven}
 use Rattle.tables.proofs.Verdicts.{refused-answers, passed-none, given-before, given-behind}
 use Rattle.rounds.specs.declared.tests.Stand.the-variants.{At}
@@ -79,19 +78,23 @@ module _ (D : Question) (r : ℕ) (A : List ℕ) where
       unfolding next
       next-none e = meets-as _ _ _ c (refused-answers c _ (next-tests D r A c) NotListed 0 (none-given e)) (record { answers = refl; leaves = refl })
 
-      -- where a length is found
-      rounds-pass : NoneGiven (round-tests D r A)
-      unfolding first-tests list-tests
-      rounds-pass = none-append (round-tests D r A) _ .0 (none-append _ _ .0 (passed-none _ passed) .0) .0
+-- what the tests leave where a length is found: the area is prepared, and the buffer c has room
+pub record Listable (D : Question) (r : ℕ) (A c T : List ℕ) (n : ℕ) : Type 0 where
+  pub prepared : Prepared D r A T n
+  pub passed : NoneGiven (first-tests D r A c)
+  pub room : n ≤ length c
 
-      pub prepared : (T : List ℕ) (n : ℕ) → status D r ≡ Found n → Tabled T (D .condition) → Prepared D r A T n
-      prepared T n e tab =
-          let (acc, long, few, is-right) = none-right D r A rounds-pass in
-          record { accepted = acc; long = long; few = few; is-right = is-right; tabled = tab; found = e }
-
-      pub room-for : (n : ℕ) → status D r ≡ Found n → n ≤ length c
-      unfolding first-tests shortChain
-      room-for n e = ltb-false (length c) n (rw e at (none-one (shortChain D r c) .0 (none-append (list-tests D r A) _ .0 (passed-none _ passed) .1)))
+pub listable : (D : Question) (r : ℕ) (A c T : List ℕ) (n : ℕ) → Asks D r A (length c) T (asked.Found n) → Listable D r A c T n
+unfolding first-tests list-tests shortChain
+listable D r A c T n (G, e, tab) =
+    let passed = passed-none _ (G c refl) in
+    let (before, last) = none-append (list-tests D r A) (shortChain D r c ∷ []) .0 passed in
+    let (acc, long, few, is-right) = none-right D r A (none-append (round-tests D r A) (unfinished D r ∷ []) .0 before .0) in
+    record {
+      prepared = record { accepted = acc; long = long; few = few; is-right = is-right; tabled = tab; found = e };
+      passed = passed;
+      room = ltb-false (length c) n (rw e at (none-one (shortChain D r c) .0 last));
+    }
 
 -- the columns and the area of an accepted question
 pub ready-of : (n : network.Network) (c : condition.Condition) (a : Ask) (from to sets : List ℕ) (m : List Move) (A : List ℕ)

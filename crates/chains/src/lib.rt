@@ -33,6 +33,12 @@ use walk::Network;
 use walk::Next;
 use walk::Refusal;
 
+// Where chains end: the mark t, and the states alive there.
+pub struct AtEnd {
+    pub mark: Mark,
+    pub states: u32,
+}
+
 // "First gives the earliest chain in the order, or says None and writes nothing."
 pub fn first(
     rounds: Rounds,
@@ -165,14 +171,10 @@ pub fn next(
     }
 }
 
-// The mark t and the states alive there: the accepting ones with the word n.
-pub struct AtEnd {
-    pub mark: Mark,
-    pub states: u32,
-}
-
+// The end of the chains of length n.
 fn at_end(network: Network, condition: Condition, ask: Ask, area: &[u16], n: usize) -> AtEnd
-    requires { ⌜ Sized (network .marks) (network .kinds) (condition .states) (now area) × (ask .from < network .marks) × (ask .to < network .marks) × (n < ceilings .unreached) ⌝ }
+    requires { ⌜ Sized (network .marks) (network .kinds) (condition .states) (now area) × (ask .from < network .marks)
+        × (ask .to < network .marks) × (n < ceilings .unreached) ⌝ }
     ensures { λ r. ⌜ Entered (r .mark .0) (ask .to) (network .marks)
         × (r .states ≡ endsAt (now (area .entry)) (condition .states) (ask .to) (condition .accept) n) ⌝ }
 {
@@ -197,8 +199,9 @@ fn earliest(
     n: usize,
     chain: &mut [u16],
 )
-    requires { ⌜ Ready network (condition .states) ties (now from) (now to) (now kinds) (now area) × (ask .from < network .marks) × (ask .to < network .marks) × (n < ceilings .unreached)
-        × (n ≤ length (now chain)) × Fillable (networkOf network (now from) (now to) (now kinds))
+    requires { ⌜ Ready network (condition .states) ties (now from) (now to) (now kinds) (now area)
+        × (ask .from < network .marks) × (ask .to < network .marks) × (n < ceilings .unreached) × (n ≤ length (now chain))
+        × Fillable (networkOf network (now from) (now to) (now kinds))
         (overTie (now table) (now area) (condition .states) (now from) (now kinds)) n (ask .to)
         (endsAt (now area) (condition .states) (ask .to) (condition .accept) n) ⌝ }
     ensures { λ _. ⌜ now (chain .exit) ≡ fill (networkOf network (now (from .entry)) (now (to .entry)) (now (kinds .entry)))
@@ -236,8 +239,9 @@ fn later(
     n: usize,
     chain: &mut [u16],
 ) -> Next
-    requires { ⌜ Ready network (condition .states) ties (now from) (now to) (now kinds) (now area) × (ask .from < network .marks) × (ask .to < network .marks) × (n < ceilings .unreached)
-        × (n ≤ length (now chain)) × (nonempty (endsAt (now area) (condition .states) (ask .to) (condition .accept) n) ≡ true)
+    requires { ⌜ Ready network (condition .states) ties (now from) (now to) (now kinds) (now area)
+        × (ask .from < network .marks) × (ask .to < network .marks) × (n < ceilings .unreached) × (n ≤ length (now chain))
+        × (nonempty (endsAt (now area) (condition .states) (ask .to) (condition .accept) n) ≡ true)
         × Raisable (networkOf network (now from) (now to) (now kinds))
         (overTie (now table) (now area) (condition .states) (now from) (now kinds)) n
         (seenIn (networkOf network (now from) (now to) (now kinds))
@@ -302,7 +306,8 @@ fn raise(
         × Raises (networkOf network (now from) (now to) (now kinds))
         (overTie (now table) (now area) states (now from) (now kinds)) (length (now chain)) place (tie .0) alive ⌝ }
     ensures { λ _. ⌜ now (chain .exit) ≡ raisedIn (networkOf network (now (from .entry)) (now (to .entry)) (now (kinds .entry)))
-        (overTie (now (table .entry)) (now (area .entry)) states (now (from .entry)) (now (kinds .entry))) place (tie .0) alive (now (chain .entry)) ⌝ }
+        (overTie (now (table .entry)) (now (area .entry)) states (now (from .entry)) (now (kinds .entry))) place (tie .0) alive
+        (now (chain .entry)) ⌝ }
 {
     chain[place] = tie.word();
     fill::before(

@@ -9,22 +9,17 @@ use lib.ListN.{length}
 use borrow.Author.Needs.{needs}
 use Rattle.walk.specs.Ceilings.{ceilings}
 use Rattle.walk.specs.Question.{Question}
-use Rattle.walk.specs.Refusals.{first-tests}
 use Rattle.walk.specs.Answers.{networkOf, question}
 use Rattle.walk.proofs.Sets.{nonempty}
-use Rattle.tables.specs.declared.tests.Verdict.the-variants.{Passed}
 use Rattle.tables.specs.Lent.{movesOf}
-use Rattle.tables.specs.Tests.{firstGiven}
 use Rattle.tables.proofs.StepLaws.{clear-new}
-use Rattle.tables.proofs.Verdicts.{passed-none}
 use Rattle.rounds.proofs.Lending.{cut-all, of-cut, to-cut}
 use Rattle.back.specs.Over.{overTie, endsAt, Ready}
 use Rattle.chains.specs.declared.tests.Asked.{Asked}
-use Rattle.chains.specs.declared.tests.Asked.the-variants.{Found}
 use Rattle.chains.specs.Asking.{Asks}
 use Rattle.chains.specs.Following.{Raisable, seenIn, Followed}
-use Rattle.chains.proofs.AskLaws.{next-refused, next-none, prepared, room-for, ready-of}
-use Rattle.chains.proofs.Listing.{Prepared, length-few, alive-there, raisable, next-meets}
+use Rattle.chains.proofs.AskLaws.{next-refused, next-none, Listable, listable, ready-of}
+use Rattle.chains.proofs.Listing.{length-few, alive-there, raisable, next-meets}
 use Rattle.chains.proofs.next.Statement.{statement}
 use Rattle.chains.proofs.next.Tie as tie
 
@@ -50,20 +45,13 @@ left c x e =
 
 -- where a length is found
 found : (c : tie.After-n) → let t = c .before .before in let A = start t .args in
-    Asks (asked t) (A .rounds .done) (A .area .now) (length (A .chain .now)) (table t) (Found (c .n .given .0 .0))
-found c = left (c .before .before) _ (c .n .given .1)
-
-passed : (c : tie.After-n) → let t = c .before .before in let A = start t .args in
-    firstGiven (first-tests (asked t) (A .rounds .done) (A .area .now) (A .chain .now)) ≡ Passed
-passed c = found c .0 _ refl
-
-ready : (c : tie.After-n) → let t = c .before .before in let A = start t .args in Prepared (asked t) (A .rounds .done) (A .area .now) (table t) (c .n .given .0 .0)
-ready c = prepared _ _ _ _ (passed c) _ _ (found c .1) (found c .2)
+    Listable (asked t) (A .rounds .done) (A .area .now) (A .chain .now) (table t) (c .n .given .0 .0)
+found c = listable _ _ _ _ _ _ (left (c .before .before) _ (c .n .given .1))
 
 -- the other columns are as long as the first
 columns : (c : tie.After-n) → let A = start (c .before .before) .args in (length (A .from .now) ≡ length (A .to .now)) ×
     (length (A .from .now) ≡ length (A .kinds .now))
-columns c = let S = ready c .accepted .sizes .columns in (sym (S .0), sym (S .1))
+columns c = let S = found c .prepared .accepted .sizes .columns in (sym (S .0), sym (S .1))
 
 tested-requires : tie.Need-tested-requires
 tested-requires c κs = clear-new 1024
@@ -111,7 +99,7 @@ later-requires c κs =
     let A = start t .args in
     let n = f .n .given .0 .0 in
     let (g, h) = columns f in
-    let P = ready f in
+    let P = found f .prepared in
     to-cut (cut-all (A .from .now) _ refl) (cut-all (A .to .now) _ g) (cut-all (A .kinds .now) _ h)
     (λ x y z. Ready (A .network) (A .condition .states) (length (A .from .now)) x y z (A .area .now)
     × (A .ask .from < A .network .marks) × (A .ask .to < A .network .marks) × (n < ceilings .unreached) × (n ≤ length (A .chain .now))
@@ -121,9 +109,9 @@ later-requires c κs =
       P .accepted .ends .0,
       P .accepted .ends .1,
       length-few _ _ _ _ _ P,
-      room-for _ _ _ _ (passed f) _ (found f .1),
+      found f .room,
       alive-there _ _ _ _ _ P,
-      raisable _ _ _ _ _ P (A .chain .now) (room-for _ _ _ _ (passed f) _ (found f .1)),
+      raisable _ _ _ _ _ P (A .chain .now) (found f .room),
     )
 
 returns : tie.Need-returns
@@ -142,9 +130,9 @@ returns-3 c =
     let A = start t .args in
     let n = f .n .given .0 .0 in
     let (g, h) = columns f in
-    let P = ready f in
+    let P = found f .prepared in
     let u = c .before .before in
-    next-meets _ _ _ _ _ P (A .chain .now) _ _ (room-for _ _ _ _ (passed f) _ (found f .1)) (passed-none _ (passed f))
+    next-meets _ _ _ _ _ P (A .chain .now) _ _ (found f .room) (found f .passed)
     (of-cut (cut-all (A .from .now) _ refl) (cut-all (A .to .now) _ g) (cut-all (A .kinds .now) _ h)
     (λ x y z. Followed (networkOf (A .network) x y z) (overTie (table t) (A .area .now) (A .condition .states) x z) n (A .ask .to) (endsAt (A .area .now) (A .condition .states) (A .ask .to) (A .condition .accept) n) (A .chain .now) (u .later .result) (u .later .last .1 .1 .1 .1 .1 .1 .1 .1 .1 .1 .0)) (u .later .ensures))
 
