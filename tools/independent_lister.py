@@ -2,8 +2,8 @@
 """independent_lister.py SEED SESSIONS: random sessions at the desk, with every answer and buffer as document 01 says.
 
 A lister that shares nothing with the definitions: it takes least lengths from the sets of chains, and lists by
-trying every row of ties that are joined. It prints a table in the form of crates/walk/specs/OwnCases.antt, which the gate has the prover
-compute from the definitions. On standard error it says how often each answer occurs.
+trying every row of ties that are joined. It prints a table in the form of crates/walk/specs/OwnCases.antt, which the
+gate has the prover compute from the definitions. On standard error it says how often each answer occurs.
 """
 import collections
 import functools
@@ -124,9 +124,6 @@ def made(q, call, rounds, area, chain):
     return ("chain",), area, listed[at] + chain[now[1]:]
 
 
-# ---- sessions
-
-
 def some_question():
     v, k, states = random.randint(1, 5), random.randint(1, 3), random.randint(1, 3)
     ties = [(random.randrange(v), random.randrange(v), random.randrange(2 ** k)) for _ in range(random.randint(0, 8))]
@@ -226,9 +223,6 @@ def sessions(count):
             if rounds:
                 made_up.append(spoiled(session.q, session.area, rounds))
     return made_up
-
-
-# ---- the table
 
 
 def row(numbers):

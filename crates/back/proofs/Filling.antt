@@ -25,7 +25,7 @@ use Rattle.back.specs.Chain.{Fillable}
 
 module _ (N : Network) (back : ℕ → ℕ → ℕ → ℕ) where
   -- what is known of a tie that is picked
-  pub lowest-in : (low u i S : ℕ) → lowest N back low u i S < ties N → Yes (nonempty (back (lowest N back low u i S) i S))
+  lowest-in : (low u i S : ℕ) → lowest N back low u i S < ties N → Yes (nonempty (back (lowest N back low u i S) i S))
   unfolding lowest enters
   lowest-in low u i S h = and-in _ _ (and-in _ _ (least-is (λ e. leb low e and enters N back u i S e) (ties N) .passes h) .1) .1
 

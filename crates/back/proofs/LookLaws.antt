@@ -1,5 +1,6 @@
--- What is seen at one place, and a turn of the loop that looks. From place i on the chain has been walked back: mark, set alive and what is seen are those of the rest from i on. A
--- tie that steps back extends this by one place, and `raise` takes the nearer place first; a tie that does not makes the whole chain fail.
+-- What is seen at one place, and a turn of the loop that looks. From place i on the chain has been walked back: mark, set alive and what is seen are
+-- those of the rest from i on. A tie that steps back extends this by one place, and `raise` takes the nearer place first; a tie that does not makes
+-- the whole chain fail.
 use Prim.Native.Nat.{ℕ, zero, suc, _+_, _≤_, _<_}
 use mathlib.Core.Path.{_≡_, refl, sym, subst, ap, ap₂, _∙_}
 use mathlib.Core.Bool.{Bool, true, false, not, false≢true, cond}
@@ -12,36 +13,19 @@ use native.Mathlib.Omega.{arith}
 use lib.Dec.{ltb}
 use lib.ListN.{length, getD, drop}
 use lib.Seq.{drop-cons, drop-length}
-use borrow.Author.Tests.{eqb-true, ltb-true, ltb-false, lt-ltb, ne-eqb}
+use borrow.Author.Tests.{eqb-true, ltb-true, lt-ltb, ne-eqb}
 use Rattle.walk.specs.Numbers.{_and_}
 use Rattle.walk.specs.Network.{Network, ties, fromOf, toOf}
 use Rattle.walk.proofs.Numbers.{Yes, and-in, and-of, eqb-of, clash}
 use Rattle.walk.proofs.Sets.{nonempty}
 use Rattle.walk.proofs.Back.{mark, setAt, enters, lowest, goes, raise}
 use Rattle.tables.specs.declared.numbers.Tie as tie
-use Rattle.tables.specs.declared.numbers.TieEntry.the-variants.{Is, Not}
-use Rattle.tables.specs.Entries.{tieEntry}
 use Rattle.back.specs.declared.pick.Usable.{Usable}
 use Rattle.back.specs.declared.pick.Usable.the-variants.{Tie, None}
 use Rattle.back.specs.declared.look.Seen.{Seen}
 use Rattle.back.specs.declared.look.Seen.the-variants.{Last}
 use Rattle.back.specs.Picked.{picked, stepped}
-use Rattle.back.specs.Chain.{raisedAt, nearest, raiseSeen}
-
--- what the checked entry of a tie says
-pub entry-in : (n bound : ℕ) (e : tie.Tie) → tieEntry n bound ≡ Is e → (n < bound) × (e .0 ≡ n)
-entry-in n bound e h = go (ltb n bound) refl h
-  where
-    go : (b : Bool) → ltb n bound ≡ b → cond b (Is (record { 0 = n })) Not ≡ Is e → (n < bound) × (e .0 ≡ n)
-    go true b h = let f : n ≡ e .0 = cc in (ltb-true n bound b, sym f)
-    go false b h = clash cc
-
-pub entry-out : (n bound : ℕ) → tieEntry n bound ≡ Not → bound ≤ n
-entry-out n bound h = go (ltb n bound) refl h
-  where
-    go : (b : Bool) → ltb n bound ≡ b → cond b (Is (record { 0 = n })) Not ≡ Not → bound ≤ n
-    go true b h = clash cc
-    go false b h = ltb-false n bound b
+use Rattle.back.specs.Chain.{raisedAt, nearer, raiseSeen}
 
 module _ (N : Network) (back : ℕ → ℕ → ℕ → ℕ) (u i S w : ℕ) where
   abbrev goes-on : Bool
@@ -105,7 +89,7 @@ module _ (N : Network) (back : ℕ → ℕ → ℕ → ℕ) (t S : ℕ) (c : Lis
   looked-none h = let d : drop (length c) c ≡ [] = drop-length c in record { mark-is = rw d; set-is = rw d; passing = rw d h; best-is = rw d }
 
   raise-more : (j e : ℕ) (d : List ℕ) (best : Seen) → best ≡ raiseSeen (raise N back t S (suc j) d)
-      → nearest (raisedAt j (picked N back (suc e) (mark N t d) j (setAt N back t S (suc j) d))) best ≡ raiseSeen (raise N back t S j (e ∷ d))
+      → nearer (raisedAt j (picked N back (suc e) (mark N t d) j (setAt N back t S (suc j) d))) best ≡ raiseSeen (raise N back t S j (e ∷ d))
   unfolding raise picked
   raise-more j e d best b = go (ltb (lowest N back (suc e) (mark N t d) j X) (ties N))
     where
@@ -115,7 +99,7 @@ module _ (N : Network) (back : ℕ → ℕ → ℕ → ℕ) (t S : ℕ) (c : Lis
       k : ℕ
       k = lowest N back (suc e) (mark N t d) j X
 
-      go : (g : Bool) → nearest (raisedAt j (cond g (Tie (record { 0 = k }) (back k j X)) None)) best
+      go : (g : Bool) → nearer (raisedAt j (cond g (Tie (record { 0 = k }) (back k j X)) None)) best
           ≡ raiseSeen (cond g (some (record { place = j; tie = k; alive = back k j X; rest = d })) (raise N back t S (suc j) d))
       go true = refl
       go false = b
@@ -131,13 +115,13 @@ module _ (N : Network) (back : ℕ → ℕ → ℕ → ℕ) (t S : ℕ) (c : Lis
     set-here = rw ij at (L .set-is)
 
     pub looked-more : (e : tie.Tie) (s v m : ℕ) (higher : Usable) (near best′ : Seen) → stepped N back u j X w ≡ Tie e s → v ≡ fromOf N (e .0)
-        → m ≡ e .0 → higher ≡ picked N back (m + 1) u j X → near ≡ raisedAt j higher → best′ ≡ nearest near best → Looked j v s best′
+        → m ≡ e .0 → higher ≡ picked N back (m + 1) u j X → near ≡ raisedAt j higher → best′ ≡ nearer near best → Looked j v s best′
     unfolding setAt goes
     looked-more e s v m higher near best′ h vm em eh en f =
         let (g, ew, sb) = steps-back N back u j X w e s h in
         let pm : Yes (passes (suc j) (drop (suc j) c)) = rw ij at (L .passing) in
         let bm : best ≡ raiseSeen (raise N back t S (suc j) (drop (suc j) c)) = rw ij at (L .best-is) in
-        let f′ : best′ ≡ nearest (raisedAt j (picked N back (suc w) u j X)) best = rw (en, eh, em, ew, add-one) at f in
+        let f′ : best′ ≡ nearer (raisedAt j (picked N back (suc w) u j X)) best = rw (en, eh, em, ew, add-one) at f in
         record {
           mark-is = rw rest-is (vm ∙ ap (λ (x : ℕ). fromOf N x) ew);
           set-is = rw (rest-is, ← set-here) sb;

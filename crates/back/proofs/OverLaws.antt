@@ -1,21 +1,20 @@
 -- Going back over one tie. The walk over a set joins the states passed that lead on, so at its end those of the whole set; a number is known by its
 -- elements, so what has the elements of a set that is made of a test is that set.
-use Prim.Native.Nat.{ℕ, zero, suc, _+_, _*_, _/_, _%_, _^_, _<_, zero-le}
+use Prim.Native.Nat.{ℕ, _+_, _*_, _/_, _^_, _<_, zero-le}
 use mathlib.Core.Path.{_≡_, refl, sym, subst, ap, _∙_}
 use mathlib.Core.Bool.{Bool, true, false, _||_, false≢true}
 use mathlib.Core.List.{List}
 use mathlib.Core.Logic.{⊎-elim}
 use mathlib.Mathlib.Data.Bool.Basic.{or-inl, or-inr, eq-false-of-not-eq-true}
-use native.Mathlib.Nat.{mod-lt, div-one, pow-suc, lt-of-le-of-lt}
+use native.Mathlib.Nat.{lt-of-le-of-lt}
 use native.Mathlib.Omega.{arith}
 use lib.Bits.{bitAnd, and-le-r}
-use lib.Dec.{lit<, ltb, eqb}
+use lib.Dec.{ltb, eqb}
 use lib.ListN.{getD}
-use lib.Pow.{shr-shr}
 use borrow.Author.Tests.{eqb-true, eqb-false, ltb-true, ltb-false, lt-ltb, le-ltb, ne-eqb}
 use Rattle.walk.specs.Numbers.{has, _and_, setBelow}
 use Rattle.walk.proofs.Numbers.{Yes, and-in, and-of, or-in, eqb-of, anyBelow-in, anyBelow-of, yes-same}
-use Rattle.walk.proofs.Sets.{nonempty, set-in, set-of, set-small, in-some, below-has}
+use Rattle.walk.proofs.Sets.{nonempty, in-some, set-is}
 use Rattle.tables.specs.Steps.{steps}
 use Rattle.tables.proofs.SetLaws.{Walk, walk-end, has-and, has-none}
 use Rattle.tables.proofs.StepLaws.{no-and, yes-and}
@@ -80,36 +79,6 @@ leads-no T kinds S p x h e =
     (λ t. let (q, _, y) = anyBelow-in 32 _ t in
     let (a, b) = and-in _ _ y in
     false≢true (sym (has-none q) ∙ ap (λ (n : ℕ). has n q) (sym e) ∙ has-and x S q ∙ and-of (h q ∙ a) b))
-
--- two numbers with the same elements are equal, so what has the elements of a set that is made is that set
-digit-one : (x y : ℕ) → x < 2 → y < 2 → eqb x 1 ≡ eqb y 1 → x ≡ y
-digit-one x y hx hy e = go (eqb x 1) refl
-  where
-    go : (t : Bool) → eqb x 1 ≡ t → x ≡ y
-    go true f = let a = eqb-true x 1 f in let b = eqb-true y 1 (sym e ∙ f) in omega arith
-    go false f = let a : ¬ (x ≡ 1) = eqb-false x 1 f in let b : ¬ (y ≡ 1) = eqb-false y 1 (sym e ∙ f) in omega arith
-
-same-set : (n a b : ℕ) → a < 2 ^ n → b < 2 ^ n → ((q : ℕ) → has a q ≡ has b q) → a ≡ b
-unfolding has
-same-set zero a b la lb h = let x : a < 1 = la in let y : b < 1 = lb in omega arith
-same-set (suc n) a b la lb h =
-    let x : a < 2 ^ n * 2 = subst (λ (k : ℕ). a < k) (pow-suc 2 n) la in
-    let y : b < 2 ^ n * 2 = subst (λ (k : ℕ). b < k) (pow-suc 2 n) lb in
-    let low : a % 2 ≡ b % 2 =
-    digit-one (a % 2) (b % 2) (mod-lt a (lit< tt)) (mod-lt b (lit< tt)) (ap (λ (m : ℕ). eqb (m % 2) 1) (sym (div-one a)) ∙ h 0 ∙ ap (λ (m : ℕ). eqb (m % 2) 1) (div-one b)) in
-    let high : a / 2 ≡ b / 2 =
-    same-set n (a / 2) (b / 2) (omega arith) (omega arith)
-    (λ q. ap (λ (m : ℕ). eqb (m % 2) 1) (shr-shr a 1 q) ∙ h (1 + q) ∙ ap (λ (m : ℕ). eqb (m % 2) 1) (sym (shr-shr b 1 q))) in
-    omega arith
-
-set-is : (n x : ℕ) (f : ℕ → Bool) → ((q : ℕ) → has x q ≡ (ltb q n and f q)) → x ≡ setBelow n f
-set-is n x f h =
-    same-set n x (setBelow n f)
-    (below-has n x (λ q t. ltb-true q n (and-in _ _ (sym (h q) ∙ t) .0)))
-    (set-small n f)
-    (λ q. yes-same
-    (λ t. let (a, b) = and-in _ _ (sym (h q) ∙ t) in set-of n f q (ltb-true q n a) b)
-    (λ t. let (a, b) = set-in n f q t in h q ∙ and-of (lt-ltb q n a) b))
 
 -- the states of a row with the word i
 exactly : (i d : ℕ) → Yes (between i (i + 1) d) → d ≡ i

@@ -1,7 +1,7 @@
 -- Over a right area and with the condition's step table, the step back is the walk's: the words are those of the definition, the table's bits say which
 -- state follows which, and numbers past the ties, the kinds or the states add nothing. So the two are one function, and what is said of one is
 -- said of the other.
-use Prim.Native.Nat.{ℕ, zero, suc, _+_, _*_, _≤_, _<_}
+use Prim.Native.Nat.{ℕ, _+_, _*_, _≤_, _<_}
 use mathlib.Core.Path.{_≡_, refl, sym, ap, ap₂, _∙_, fun-ext}
 use mathlib.Core.Bool.{Bool, true, false}
 use mathlib.Core.List.{List}
@@ -9,20 +9,16 @@ use native.Mathlib.Omega.{arith}
 use lib.Dec.{ltb, eqb}
 use lib.ListN.{getD, List·getD-eq-default}
 use borrow.Author.Tests.{ltb-true, ltb-false}
-use Rattle.walk.specs.Numbers.{has, _and_, anyBelow, setBelow}
+use Rattle.walk.specs.Numbers.{has, _and_, anyBelow}
 use Rattle.walk.specs.Network.{Network, ties, fromOf, kindsOf}
 use Rattle.walk.specs.Condition.{Condition, accepts}
 use Rattle.walk.specs.Area.{leads, word}
 use Rattle.walk.proofs.Numbers.{Yes, and-in, and-of, anyBelow-in, anyBelow-of, yes-same}
+use Rattle.walk.proofs.Sets.{set-same}
 use Rattle.walk.proofs.Executable.{Sound, leads-in, leads-of, leads-states}
 use Rattle.walk.proofs.Back as Back
 use Rattle.tables.specs.Steps.{Tabled, steps}
 use Rattle.back.specs.Over.{leadsInto, over, overTie, endsAt}
-
-set-same : (n : ℕ) (f g : ℕ → Bool) → ((q : ℕ) → q < n → f q ≡ g q) → setBelow n f ≡ setBelow n g
-unfolding setBelow
-set-same zero f g h = refl
-set-same (suc n) f g h = rw (h n (omega arith), set-same n f g (λ q l. h q (omega arith)))
 
 module _ (N : Network) (C : Condition) (s t r : ℕ) (T A : List ℕ) (ok : Sound N C) (some-mark : 1 ≤ N .marks) (kinds : N .kinds ≤ 32)
     (states : C .states ≤ 32) (tab : Tabled T C) (right : (v q : ℕ) → v < N .marks → q < C .states → getD A (v * C .states + q) 0 ≡ word N C s r v q) where

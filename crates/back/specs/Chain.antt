@@ -27,10 +27,10 @@ raisedAt i (usable.Tie e s) = At i e s
 raisedAt i usable.None = Last
 
 -- of two places the first, where it can be raised
-abbrev pub nearest : Seen → Seen → Seen
-nearest (At i e s) far = At i e s
-nearest Last far = far
-nearest Unlisted far = far
+abbrev pub nearer : Seen → Seen → Seen
+nearer (At i e s) far = At i e s
+nearer Last far = far
+nearer Unlisted far = far
 
 abbrev pub raiseSeen : Option Raise → Seen
 raiseSeen none = Last

@@ -66,7 +66,7 @@ fn surely(
     }
 }
 
-// The first n places of the chain are filled with ties into u, before which the states of a set are alive.
+// The first n places of the chain are filled back from u, where the states of a set are alive.
 pub fn before(
     from: &[u16],
     to: &[u16],

@@ -1,4 +1,4 @@
-// A chain is walked back once, and nothing is written: it is not listed, it is the last, or a tie of it can be raised, and of those the one nearest
+// A chain is walked back once, and nothing is written: it is not listed, it is the last, or a tie of it can be raised, and of those the one nearer
 // the front counts.
 
 ghost use mathlib.Core.Bool.{true};
@@ -11,7 +11,7 @@ ghost use Rattle.walk.proofs.Sets.{nonempty};
 ghost use Rattle.walk.proofs.Back.{goes, raise};
 ghost use Rattle.back.specs.Over.{overTie, Ready};
 ghost use Rattle.back.specs.Picked.{stepped};
-ghost use Rattle.back.specs.Chain.{raisedAt, nearest, seen};
+ghost use Rattle.back.specs.Chain.{raisedAt, nearer, seen};
 use crate::pick;
 use crate::pick::Usable;
 use crate::step;
@@ -74,8 +74,8 @@ fn raised(i: usize, higher: Usable) -> Seen
 }
 
 // What is seen nearest the front, of a place and those after it.
-fn nearest(near: Seen, far: Seen) -> Seen
-    ensures { λ r. ⌜ r ≡ nearest near far ⌝ }
+fn nearer(near: Seen, far: Seen) -> Seen
+    ensures { λ r. ⌜ r ≡ nearer near far ⌝ }
 {
     match near {
         Seen::Unlisted => far,
@@ -142,7 +142,7 @@ pub fn look(
                     i as u16,
                     set,
                 );
-                best = nearest(raised(i, higher), best);
+                best = nearer(raised(i, higher), best);
                 at = e.leaves(from, network.marks);
                 set = before;
             }

@@ -15,10 +15,10 @@ use Rattle.walk.specs.declared.Refusal.{Refusal}
 use Rattle.walk.specs.declared.Refusal.the-variants.{ShortChain, NotListed}
 use Rattle.walk.specs.declared.Status.{Status}
 use Rattle.walk.specs.declared.Status.the-variants.{Found, None, Going}
-use Rattle.walk.specs.Question.{Question, pairs, status}
+use Rattle.walk.specs.Question.{Question, status}
 use Rattle.walk.specs.Refusals.{number, unfinished, shortChain, notListed, round-tests, list-tests, first-tests, next-tests}
 use Rattle.walk.specs.Calls.{refused, gives, NoChain, first, next}
-use Rattle.walk.specs.Demands.{NoneGiven, Accepted}
+use Rattle.walk.specs.Demands.{NoneGiven}
 use Rattle.walk.specs.Answers.{question, Meets}
 use Rattle.walk.proofs.Refusals.{none-append, none-one, judged-none}
 use Rattle.tables.specs.declared.tests.Verdict.the-variants as verdict
@@ -28,10 +28,10 @@ use Rattle.rounds.specs.declared.tests.Stand.the-variants.{At}
 use Rattle.rounds.specs.Judged.{Judges}
 use Rattle.rounds.proofs.Lending.{none-right, sized, ties-in, rising}
 use Rattle.rounds.proofs.Meeting.{meets-as}
-use Rattle.back.specs.Over.{Ready}
 use Rattle.chains.specs.declared.tests.Asked.the-variants as asked
-use Rattle.chains.specs.Asking.{standing, Asks}
-use Rattle.chains.proofs.Listing.{Prepared}
+use Rattle.chains.specs.Asking.{byStatus, Asks}
+use Rattle.chains.specs.Following.{Cleared}
+use Rattle.chains.proofs.Listing.{FoundRight, length-few}
 
 module _ (D : Question) (r : ℕ) (A : List ℕ) where
   pub refused-early : (x : Refusal) (p : ℕ) → firstGiven (round-tests D r A) ≡ verdict.Refused x p → (c : List ℕ) → firstGiven (first-tests D r A c) ≡ verdict.Refused x p
@@ -45,7 +45,7 @@ module _ (D : Question) (r : ℕ) (A : List ℕ) where
       ap firstGiven (append-assoc (round-tests D r A) (unfinished D r ∷ []) (shortChain D r c ∷ []))
       ∙ given-behind (round-tests D r A) (unfinished D r ∷ shortChain D r c ∷ []) h
 
-  pub asks : (room : ℕ) (T S : List ℕ) (s : Status) → Judges D r A T S (At s) → Asks D r A room T (standing s room)
+  pub asks : (room : ℕ) (T S : List ℕ) (s : Status) → Judges D r A T S (At s) → Asks D r A room T (byStatus s room)
   unfolding firstGiven unfinished shortChain
   asks room T S Going (e, f, F) = λ c l. last-two (passed-none _ e) c ∙ (rw (← f))
   asks room T S None (e, f, F) = (λ c l. last-two (passed-none _ e) c ∙ (rw (← f, le-ltb (length c) 0 zero-le)), sym f)
@@ -80,7 +80,7 @@ module _ (D : Question) (r : ℕ) (A : List ℕ) where
 
 -- what the tests leave where a length is found: the area is prepared, and the buffer c has room
 pub record Listable (D : Question) (r : ℕ) (A c T : List ℕ) (n : ℕ) : Type 0 where
-  pub prepared : Prepared D r A T n
+  pub prepared : FoundRight D r A T n
   pub passed : NoneGiven (first-tests D r A c)
   pub room : n ≤ length c
 
@@ -96,12 +96,21 @@ listable D r A c T n (G, e, tab) =
       room = ltb-false (length c) n (rw e at (none-one (shortChain D r c) .0 last));
     }
 
--- the columns and the area of an accepted question
-pub ready-of : (n : network.Network) (c : condition.Condition) (a : Ask) (from to sets : List ℕ) (m : List Move) (A : List ℕ)
-    → Accepted (question n c a from to sets m) → pairs (question n c a from to sets m) ≤ length A → Ready n (c .states) (length from) from to sets A
-ready-of n c a from to sets m A acc room = record {
-  size = sized n c a from to sets m acc A room;
-  columns = ties-in n c a from to sets m acc;
-  rising = rising n c a from to sets m acc;
-  few-ties = acc .sizes .few;
-}
+-- what the work is lent then
+pub cleared : (n : network.Network) (c : condition.Condition) (a : Ask) (from to sets : List ℕ) (m : List Move) (r : ℕ) (A b T : List ℕ) (k : ℕ)
+    → Listable (question n c a from to sets m) r A b T k → Cleared n (c .states) (length from) a from to sets A k b
+cleared n c a from to sets m r A b T k L =
+    let P = L .prepared in
+    let acc = P .accepted in
+    record {
+      ready = record {
+        size = sized n c a from to sets m acc A (P .long);
+        columns = ties-in n c a from to sets m acc;
+        rising = rising n c a from to sets m acc;
+        few-ties = acc .sizes .few;
+      };
+      from-in = acc .ends .0;
+      to-in = acc .ends .1;
+      few = length-few _ _ _ _ _ P;
+      room = L .room;
+    }

@@ -46,7 +46,7 @@ use Rattle.back.proofs.Filling.{fill-append, raise-is, level-back, level-end, f
 use Rattle.chains.specs.Following.{raisedIn, answerOf, leftBy, Raises, Raisable, seenIn, Followed}
 
 -- what the tests leave where the status is Found n: the area is the right one, and T is the step table
-pub record Prepared (D : Question) (r : ℕ) (A T : List ℕ) (n : ℕ) : Type 0 where
+pub record FoundRight (D : Question) (r : ℕ) (A T : List ℕ) (n : ℕ) : Type 0 where
   pub accepted : Accepted D
   pub long : pairs D ≤ length A
   pub few : r ≤ pairs D
@@ -54,7 +54,7 @@ pub record Prepared (D : Question) (r : ℕ) (A T : List ℕ) (n : ℕ) : Type 0
   pub tabled : Tabled T (D .condition)
   pub found : status D r ≡ Found n
 
-module _ (D : Question) (r : ℕ) (A T : List ℕ) (n : ℕ) (P : Prepared D r A T n) where
+module _ (D : Question) (r : ℕ) (A T : List ℕ) (n : ℕ) (P : FoundRight D r A T n) where
   abbrev N : Network
   N = D .network
 
@@ -62,10 +62,10 @@ module _ (D : Question) (r : ℕ) (A T : List ℕ) (n : ℕ) (P : Prepared D r A
   C = D .condition
 
   -- going back, by the words of the area and the step table; and by the definition
-  abbrev pub stepBack : ℕ → ℕ → ℕ → ℕ
+  abbrev stepBack : ℕ → ℕ → ℕ → ℕ
   stepBack = overTie T A (C .states) (N .froms) (N .sets)
 
-  abbrev pub atT : ℕ
+  abbrev atT : ℕ
   atT = endsAt A (C .states) (D .to) (C .accept) n
 
   abbrev back : ℕ → ℕ → ℕ → ℕ

@@ -29,7 +29,7 @@ Asks D r A room T None = Gives D r A room verdict.Passed × (Question.status D r
 Asks D r A room T (Found n) = Gives D r A room verdict.Passed × (Question.status D r ≡ status.Found n) × Tabled T (D .condition)
 
 -- refusals 9 and 10, by the status
-abbrev pub standing : Status → ℕ → Asked
-standing status.Going room = Refused Unfinished 0
-standing status.None room = None
-standing (status.Found n) room = cond (ltb room n) (Refused ShortChain n) (Found n)
+abbrev pub byStatus : Status → ℕ → Asked
+byStatus status.Going room = Refused Unfinished 0
+byStatus status.None room = None
+byStatus (status.Found n) room = cond (ltb room n) (Refused ShortChain n) (Found n)

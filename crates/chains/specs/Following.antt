@@ -1,16 +1,29 @@
--- What next answers and leaves, by what is seen of the chain that stands in the buffer: over any step back.
-use Prim.Native.Nat.{ℕ, suc, _<_}
+-- What the work of first and next asks for; and what next answers and leaves, by what is seen of the chain that stands in the buffer: over any step
+-- back.
+use Prim.Native.Nat.{ℕ, suc, _≤_, _<_}
 use mathlib.Core.List.{List, _∷_}
 use mathlib.Core.Path.{_≡_}
-use lib.ListN.{take, drop}
+use lib.ListN.{length, take, drop}
+use Rattle.walk.specs.declared.Network as network
+use Rattle.walk.specs.declared.Ask.{Ask}
 use Rattle.walk.specs.declared.Refusal.the-variants.{NotListed}
 use Rattle.walk.specs.declared.Next.{Next}
 use Rattle.walk.specs.declared.Next.the-variants.{Chain, End, Refused}
+use Rattle.walk.specs.Ceilings.{ceilings}
 use Rattle.walk.specs.Network.{Network, ties, fromOf}
 use Rattle.walk.proofs.Back.{fill, goes, raise}
 use Rattle.back.specs.declared.look.Seen.{Seen}
 use Rattle.back.specs.declared.look.Seen.the-variants.{Unlisted, Last, At}
+use Rattle.back.specs.Over.{Ready}
 use Rattle.back.specs.Chain.{Fillable, seen}
+
+-- what refusals 1 to 10 leave where the least length is k: columns and area, the ends, and room for a chain in the buffer c
+pub record Cleared (n : network.Network) (states ties : ℕ) (a : Ask) (from to sets A : List ℕ) (k : ℕ) (c : List ℕ) : Type 0 where
+  pub ready : Ready n states ties from to sets A
+  pub from-in : a .from < n .marks
+  pub to-in : a .to < n .marks
+  pub few : k < ceilings .unreached
+  pub room : k ≤ length c
 
 abbrev pub answerOf : Seen → Next
 answerOf Unlisted = Refused NotListed 0

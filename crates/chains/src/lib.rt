@@ -4,7 +4,7 @@ pub mod tests;
 
 ghost use mathlib.Core.Bool.{true};
 ghost use mathlib.Core.Path.{_≡_};
-ghost use Prim.Native.Nat.{_≤_, _<_};
+ghost use Prim.Native.Nat.{_<_};
 ghost use lib.ListN.{length, drop};
 ghost use Rattle.walk.specs.Ceilings.{ceilings};
 ghost use Rattle.walk.specs.Calls.{first, next};
@@ -16,7 +16,7 @@ ghost use Rattle.tables.specs.Entries.{Entered};
 ghost use Rattle.rows.specs.Rows.{Sized};
 ghost use Rattle.back.specs.Over.{overTie, endsAt, Ready};
 ghost use Rattle.back.specs.Chain.{Fillable};
-ghost use Rattle.chains.specs.Following.{raisedIn, Raises, Raisable, seenIn, Followed};
+ghost use Rattle.chains.specs.Following.{Cleared, raisedIn, Raises, Raisable, seenIn, Followed};
 use back::fill;
 use back::look;
 use back::look::Seen;
@@ -199,8 +199,7 @@ fn earliest(
     n: usize,
     chain: &mut [u16],
 )
-    requires { ⌜ Ready network (condition .states) ties (now from) (now to) (now kinds) (now area)
-        × (ask .from < network .marks) × (ask .to < network .marks) × (n < ceilings .unreached) × (n ≤ length (now chain))
+    requires { ⌜ Cleared network (condition .states) ties ask (now from) (now to) (now kinds) (now area) n (now chain)
         × Fillable (networkOf network (now from) (now to) (now kinds))
         (overTie (now table) (now area) (condition .states) (now from) (now kinds)) n (ask .to)
         (endsAt (now area) (condition .states) (ask .to) (condition .accept) n) ⌝ }
@@ -239,8 +238,7 @@ fn later(
     n: usize,
     chain: &mut [u16],
 ) -> Next
-    requires { ⌜ Ready network (condition .states) ties (now from) (now to) (now kinds) (now area)
-        × (ask .from < network .marks) × (ask .to < network .marks) × (n < ceilings .unreached) × (n ≤ length (now chain))
+    requires { ⌜ Cleared network (condition .states) ties ask (now from) (now to) (now kinds) (now area) n (now chain)
         × (nonempty (endsAt (now area) (condition .states) (ask .to) (condition .accept) n) ≡ true)
         × Raisable (networkOf network (now from) (now to) (now kinds))
         (overTie (now table) (now area) (condition .states) (now from) (now kinds)) n

@@ -6,7 +6,7 @@ ghost use Rattle.walk.specs.Ceilings.{ceilings};
 ghost use Rattle.walk.specs.Answers.{question};
 ghost use Rattle.tables.specs.Lent.{movesOf};
 ghost use Rattle.tables.specs.Steps.{Clear};
-ghost use Rattle.chains.specs.Asking.{standing, Asks};
+ghost use Rattle.chains.specs.Asking.{byStatus, Asks};
 use rounds::tests::Stand;
 use tables::steps::Steps;
 use walk::Ask;
@@ -23,8 +23,8 @@ pub enum Asked {
 }
 
 // Refusals 9 and 10, for a chain buffer with so much room.
-fn standing(found: Status, room: usize) -> Asked
-    ensures { λ r. ⌜ r ≡ standing found room ⌝ }
+fn by_status(found: Status, room: usize) -> Asked
+    ensures { λ r. ⌜ r ≡ byStatus found room ⌝ }
 {
     match found {
         Status::Going => Asked::Refused(Refusal::Unfinished, 0),
@@ -78,6 +78,6 @@ pub fn tested(
         area,
     ) {
         Stand::Refused(name, place) => Asked::Refused(name, place),
-        Stand::At(found) => standing(found, room),
+        Stand::At(found) => by_status(found, room),
     }
 }

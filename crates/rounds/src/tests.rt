@@ -23,7 +23,7 @@ pub enum Stand {
 }
 
 // Refusal 8, the count and the area, on what passed refusals 1 to 7, with the columns cut to the ties.
-pub fn of_area(
+fn of_area(
     done: usize,
     network: Network,
     condition: Condition,

@@ -35,7 +35,7 @@ any-same n p r h =
     (λ t. let (i, l, y) = anyBelow-in n r t in anyBelow-of n p i l (h i l ∙ y))
 
 -- numbers that do not pass may be left out
-pub any-skip : (a b : ℕ) (p : ℕ → Bool) → a ≤ b → ((i : ℕ) → a ≤ i → i < b → p i ≡ false) → anyBelow b p ≡ anyBelow a p
+any-skip : (a b : ℕ) (p : ℕ → Bool) → a ≤ b → ((i : ℕ) → a ≤ i → i < b → p i ≡ false) → anyBelow b p ≡ anyBelow a p
 any-skip a b p l h =
     yes-same
     (λ t. let (i, m, y) = anyBelow-in b p t in

@@ -240,7 +240,7 @@ module _ (N : Network) (C : Condition) (s t r : ℕ) where
           let m : mark N t d ≡ toOf N e = joins-mark N t (toOf N e) d jd in
           and-of (goes-of (suc i) d (rw m jd) (some-before e i _ h)) (and-of (lt-ltb _ _ eh) (and-of (eqb-of (sym m)) h))
 
-      -- a chain of the least length goes all the fill back exactly if it is in the list
+      -- a chain of the least length goes all the way back exactly if it is in the list
       pub goes-law : (c : List ℕ) → length c ≡ n → Yes (goes N back t (atEnd n) 0 c) ↔ List·Memᴰ c (list N C s t n)
       goes-law c l = (
         λ h. let (c′, l′, x) = completes-law 0 c (zero-add _ ∙ l) .1 (goes-in 0 c h) in

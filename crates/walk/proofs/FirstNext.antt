@@ -117,7 +117,7 @@ module _ (N : Network) (C : Condition) (s t r : ℕ) (ok : Sound N C) (n : ℕ) 
           before-asym (g ++ (e ∷ d)) (b ++ (x ∷ d)) (before-at g b e x d (lg ∙ sym lb) q) (rw h at o′))
           (eq-or-lt-of-le k)
 
-  -- the smallest ties all the fill make the first chain of the list
+  -- the smallest ties all the way make the first chain of the list
   pub first-law : head? (list N C s t n) ≡ some (filled n [])
   first-law =
       first-is _ (filled n []) (list-rises N C s t n)

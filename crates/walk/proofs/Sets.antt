@@ -1,9 +1,9 @@
 -- The laws of sets held in a number: which numbers are in a set that is made of a test, and that a set with none in it is 0.
-use mathlib.Core.Path.{_≡_, refl, sym, ap, _∙_}
+use mathlib.Core.Path.{_≡_, refl, sym, subst, ap, _∙_}
 use mathlib.Core.Logic.{_↔_, _⊎_, inl, inr, ⊎-elim}
 use mathlib.Core.Bool.{Bool, true, false, not, false≢true, cond}
 use Prim.Native.Nat.{ℕ, zero, suc, _+_, _-_, _*_, _/_, _%_, _^_, _≤_, _<_, max}
-use native.Mathlib.Nat.{one-mul, div-eq-of-lt, le-of-suc-le-suc, eq-or-lt-of-le, lt-suc-self, pow-suc, lt-trans, lt-of-lt-of-le, lt-of-le-of-lt, le-div-iff-mul-le, div-le-self, not-suc-le-zero, div-self, zero-div, div-eq-of-lt-le}
+use native.Mathlib.Nat.{one-mul, div-eq-of-lt, le-of-suc-le-suc, eq-or-lt-of-le, lt-suc-self, pow-suc, lt-trans, lt-of-lt-of-le, lt-of-le-of-lt, le-div-iff-mul-le, div-le-self, not-suc-le-zero, div-self, zero-div, div-eq-of-lt-le, mod-lt, div-one}
 use native.Mathlib.Omega.{arith, ne-cases, max-cases}
 use lib.Arith.{digits-mod}
 use lib.Dec.{lit<, eqb, ltb}
@@ -11,9 +11,9 @@ use lib.Count.{leading-top}
 use lib.Pow.{pow-pos, pow-lt, pow-mono, pow-add, shl-shr, shr-shr}
 use lib.Bits.{bitOr, or-lt, or-shr, or-step, shifted-even}
 use mathlib.Mathlib.Data.Bool.Basic.{eq-true-of-not-eq-false}
-use borrow.Author.Tests.{eqb-true, eqb-false, ltb-true, ltb-false, ne-eqb}
-use Rattle.walk.specs.Numbers.{has, setBelow}
-use Rattle.walk.proofs.Numbers.{Yes, eqb-of}
+use borrow.Author.Tests.{eqb-true, eqb-false, ltb-true, ltb-false, lt-ltb, ne-eqb}
+use Rattle.walk.specs.Numbers.{has, _and_, setBelow}
+use Rattle.walk.proofs.Numbers.{Yes, eqb-of, and-in, and-of, yes-same}
 
 -- the set is not empty
 unfoldable pub nonempty : ℕ → Bool
@@ -97,6 +97,11 @@ set-of (suc n) p q l t = go (p n) refl (eq-or-lt-of-le (le-of-suc-le-suc l)) (λ
     go false e (inl k) ih = absurd (false≢true (sym e ∙ rw k at t))
     go false e (inr k) ih = ih k
 
+pub set-same : (n : ℕ) (f g : ℕ → Bool) → ((q : ℕ) → q < n → f q ≡ g q) → setBelow n f ≡ setBelow n g
+unfolding setBelow
+set-same zero f g h = refl
+set-same (suc n) f g h = rw (h n (omega arith), set-same n f g (λ q l. h q (omega arith)))
+
 -- the empty set
 pub some-of : (s q : ℕ) → Yes (has s q) → Yes (nonempty s)
 unfolding nonempty
@@ -154,3 +159,33 @@ below-has n s h = go (ltb s (2 ^ n)) refl
         let (q, _, d) = digit-of s m small (λ z. (let y : m ≡ 0 = z in omega arith)) in
         let k : n + q < n = h (n + q) (digit-has s (n + q) (ap (λ (i : ℕ). i % 2) (sym (shr-shr s n q)) ∙ d)) in
         absurd (omega arith)
+
+-- two numbers with the same elements are equal, so what has the elements of a set that is made is that set
+digit-one : (x y : ℕ) → x < 2 → y < 2 → eqb x 1 ≡ eqb y 1 → x ≡ y
+digit-one x y hx hy e = go (eqb x 1) refl
+  where
+    go : (t : Bool) → eqb x 1 ≡ t → x ≡ y
+    go true f = let a = eqb-true x 1 f in let b = eqb-true y 1 (sym e ∙ f) in omega arith
+    go false f = let a : ¬ (x ≡ 1) = eqb-false x 1 f in let b : ¬ (y ≡ 1) = eqb-false y 1 (sym e ∙ f) in omega arith
+
+same-set : (n a b : ℕ) → a < 2 ^ n → b < 2 ^ n → ((q : ℕ) → has a q ≡ has b q) → a ≡ b
+unfolding has
+same-set zero a b la lb h = let x : a < 1 = la in let y : b < 1 = lb in omega arith
+same-set (suc n) a b la lb h =
+    let x : a < 2 ^ n * 2 = subst (λ (k : ℕ). a < k) (pow-suc 2 n) la in
+    let y : b < 2 ^ n * 2 = subst (λ (k : ℕ). b < k) (pow-suc 2 n) lb in
+    let low : a % 2 ≡ b % 2 =
+    digit-one (a % 2) (b % 2) (mod-lt a (lit< tt)) (mod-lt b (lit< tt)) (ap (λ (m : ℕ). eqb (m % 2) 1) (sym (div-one a)) ∙ h 0 ∙ ap (λ (m : ℕ). eqb (m % 2) 1) (div-one b)) in
+    let high : a / 2 ≡ b / 2 =
+    same-set n (a / 2) (b / 2) (omega arith) (omega arith)
+    (λ q. ap (λ (m : ℕ). eqb (m % 2) 1) (shr-shr a 1 q) ∙ h (1 + q) ∙ ap (λ (m : ℕ). eqb (m % 2) 1) (sym (shr-shr b 1 q))) in
+    omega arith
+
+pub set-is : (n x : ℕ) (f : ℕ → Bool) → ((q : ℕ) → has x q ≡ (ltb q n and f q)) → x ≡ setBelow n f
+set-is n x f h =
+    same-set n x (setBelow n f)
+    (below-has n x (λ q t. ltb-true q n (and-in _ _ (sym (h q) ∙ t) .0)))
+    (set-small n f)
+    (λ q. yes-same
+    (λ t. let (a, b) = and-in _ _ (sym (h q) ∙ t) in set-of n f q (ltb-true q n a) b)
+    (λ t. let (a, b) = set-in n f q t in h q ∙ and-of (lt-ltb q n a) b))

@@ -24,7 +24,7 @@ before-requires c κs =
     let S = c .before .before .before .before .before .before .before in
     let P = S .pre in
     let (t, s) = c .before .at-end .ensures in
-    (P .0, t .below, omega (arith, P .3), P .4, fillable-as (net S) (step S) (S .args .n) (t .is) s (P .5))
+    (P .0 .ready, t .below, omega (arith, P .0 .few), P .0 .room, fillable-as (net S) (step S) (S .args .n) (t .is) s (P .1))
 
 same-length : tie.Need-same-length
 same-length c = search needs

@@ -1,24 +1,24 @@
 -- Where the tests refuse, their row answers; with no chain there is none to give; where a length is found, the columns are cut to the ties and the
 -- smallest ties are filled in.
-use Prim.Native.Nat.{ℕ, _≤_, _<_}
+use Prim.Native.Nat.{ℕ}
 use mathlib.Core.Path.{_≡_, refl, sym, subst}
 use mathlib.Core.List.{List}
 use native.Mathlib.Omega.{arith}
 use lib.ListN.{length, drop}
 use borrow.Author.Needs.{needs}
-use Rattle.walk.specs.Ceilings.{ceilings}
 use Rattle.walk.specs.Question.{Question}
 use Rattle.walk.specs.Answers.{networkOf, question}
 use Rattle.walk.proofs.Back.{fill}
 use Rattle.tables.specs.Lent.{movesOf}
 use Rattle.tables.proofs.StepLaws.{clear-new}
 use Rattle.rounds.proofs.Lending.{cut-all, of-cut, to-cut}
-use Rattle.back.specs.Over.{overTie, endsAt, Ready}
+use Rattle.back.specs.Over.{overTie, endsAt}
 use Rattle.back.specs.Chain.{Fillable}
 use Rattle.chains.specs.declared.tests.Asked.{Asked}
 use Rattle.chains.specs.Asking.{Asks}
-use Rattle.chains.proofs.AskLaws.{first-refused, first-none, Listable, listable, ready-of}
-use Rattle.chains.proofs.Listing.{length-few, first-fillable, first-meets}
+use Rattle.chains.specs.Following.{Cleared}
+use Rattle.chains.proofs.AskLaws.{first-refused, first-none, Listable, listable, cleared}
+use Rattle.chains.proofs.Listing.{first-fillable, first-meets}
 use Rattle.chains.proofs.first.Statement.{statement}
 use Rattle.chains.proofs.first.Tie as tie
 
@@ -100,14 +100,9 @@ earliest-requires c κs =
     let (g, h) = columns f in
     let P = found f .prepared in
     to-cut (cut-all (A .from .now) _ refl) (cut-all (A .to .now) _ g) (cut-all (A .kinds .now) _ h)
-    (λ x y z. Ready (A .network) (A .condition .states) (length (A .from .now)) x y z (A .area .now)
-    × (A .ask .from < A .network .marks) × (A .ask .to < A .network .marks) × (n < ceilings .unreached) × (n ≤ length (A .chain .now))
+    (λ x y z. Cleared (A .network) (A .condition .states) (length (A .from .now)) (A .ask) x y z (A .area .now) n (A .chain .now)
     × Fillable (networkOf (A .network) x y z) (overTie (table t) (A .area .now) (A .condition .states) x z) n (A .ask .to) (endsAt (A .area .now) (A .condition .states) (A .ask .to) (A .condition .accept) n)) (
-      ready-of (A .network) (A .condition) (A .ask) (A .from .now) (A .to .now) (A .kinds .now) _ (A .area .now) (P .accepted) (P .long),
-      P .accepted .ends .0,
-      P .accepted .ends .1,
-      length-few _ _ _ _ _ P,
-      found f .room,
+      cleared (A .network) (A .condition) (A .ask) (A .from .now) (A .to .now) (A .kinds .now) _ _ (A .area .now) (A .chain .now) _ n (found f),
       first-fillable _ _ _ _ _ P,
     )
 

@@ -37,9 +37,9 @@ look-requires c κs =
     let P = S .pre in
     let n = S .args .n in
     let z : n - 0 ≡ n = omega arith in
-    let l = length-take-le (n - 0) (S .args .chain .now) (omega (arith, P .4)) in
+    let l = length-take-le (n - 0) (S .args .chain .now) (omega (arith, P .0 .room)) in
     let (t, s) = c .before .before .at-end .ensures in
-    (P .0, t .below, omega (arith, P .3), rw s (P .5))
+    (P .0 .ready, t .below, omega (arith, P .0 .few), rw s (P .1))
 
 -- what is seen
 seen-is : (c : tie.After-look) → let S = c .before .before .before .before .before .before .before .before .before in c .look .result
@@ -64,8 +64,8 @@ raise-requires c κs =
     let S = L .before .before .before .before .before .before .before .before .before in
     let P = S .pre in
     let e = c .before .before .place .given in
-    let R = raises-at (net S) (step S) (S .args .n) (S .args .ask .to) _ (S .args .chain .now) _ (seen-is L) (e .0 .0) (e .0 .1 .1 .0) (e .0 .1 .0) (e .1) (P .6) in
-    (P .0, omega (arith, R .place-in, P .3), raises-more (net S) (step S) (S .args .n) _ _ _ _ (P .4) R)
+    let R = raises-at (net S) (step S) (S .args .n) (S .args .ask .to) _ (S .args .chain .now) _ (seen-is L) (e .0 .0) (e .0 .1 .1 .0) (e .0 .1 .0) (e .1) (P .2) in
+    (P .0 .ready, omega (arith, R .place-in, P .0 .few), raises-more (net S) (step S) (S .args .n) _ _ _ _ (P .0 .room) R)
 
 same-length : tie.Need-same-length
 same-length c = search needs

@@ -79,8 +79,8 @@ into-requires c κs =
 raised-requires : tie.Need-raised-requires Inv-loop μ-loop
 raised-requires c κs = search needs
 
-nearest-requires : tie.Need-nearest-requires Inv-loop μ-loop
-nearest-requires c κs = search needs
+nearer-requires : tie.Need-nearer-requires Inv-loop μ-loop
+nearer-requires c κs = search needs
 
 leaves-requires : tie.Need-leaves-requires Inv-loop μ-loop
 leaves-requires c κs =
@@ -99,7 +99,7 @@ loop-again c =
       omega arith,
       c .leaves .ensures .below,
       looked-more _ _ _ _ (A .chain .now) (L .i) (L .i - 1) _ _ _ _ (omega arith) (omega arith) refl (L .inv .2) (e .0 .0) (e .0 .1 .0) _ _ _ _ _
-          (sym (c .before .before .before .before .before .before .before .before .stepped .ensures) ∙ e .1) (c .leaves .ensures .is) (c .before .before .before .before .index .ensures) (c .before .before .before .into .ensures) (c .before .before .raised .ensures) (c .before .nearest .ensures),
+          (sym (c .before .before .before .before .before .before .before .before .stepped .ensures) ∙ e .1) (c .leaves .ensures .is) (c .before .before .before .before .index .ensures) (c .before .before .before .into .ensures) (c .before .before .raised .ensures) (c .before .nearer .ensures),
     )
 
 returns-2 : tie.Need-returns-2 Inv-loop μ-loop
@@ -128,7 +128,7 @@ look-spec =
     cast-into
     into-requires
     raised-requires
-    nearest-requires
+    nearer-requires
     leaves-requires
     loop-less
     loop-again

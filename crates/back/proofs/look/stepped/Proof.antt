@@ -4,9 +4,10 @@ use mathlib.Core.Path.{_≡_, sym, ap, ap₂, _∙_}
 use native.Mathlib.Omega.{arith}
 use lib.ListN.{getD}
 use borrow.Author.Needs.{needs}
+use Rattle.tables.proofs.Entries.{entry-in, entry-out}
 use Rattle.rows.specs.Offers.{Within}
 use Rattle.back.specs.Over.{over, overTie}
-use Rattle.back.proofs.LookLaws.{entry-in, entry-out, stops-out, stops-off, stops-dead, steps-on}
+use Rattle.back.proofs.LookLaws.{stops-out, stops-off, stops-dead, steps-on}
 use Rattle.back.proofs.look.stepped.Statement.{statement}
 use Rattle.back.proofs.look.stepped.Tie as tie
 

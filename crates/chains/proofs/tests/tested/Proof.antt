@@ -44,8 +44,8 @@ enum-known-name c = search needs
 enum-known-found : tie.Need-enum-known-found
 enum-known-found c = search needs
 
-standing-requires : tie.Need-standing-requires
-standing-requires c κs = search needs
+by-status-requires : tie.Need-by-status-requires
+by-status-requires c κs = search needs
 
 returns : tie.Need-returns
 returns c = λ x l. refused-early _ _ _ _ _ (left (c .before .before .before) _ (c .before .name .given .1)) x
@@ -53,10 +53,10 @@ returns c = λ x l. refused-early _ _ _ _ _ (left (c .before .before .before) _ 
 returns-2 : tie.Need-returns-2
 returns-2 c =
     let t = c .before .before .before .before in
-    subst (λ (x : Asked). Asks (asked t) (start t .args .done) (start t .args .area .now) (start t .args .room) (table t) x) (sym (c .standing .ensures))
+    subst (λ (x : Asked). Asks (asked t) (start t .args .done) (start t .args .area .now) (start t .args .room) (table t) x) (sym (c .by-status .ensures))
     (asks (asked t) _ _ (start t .args .room) (table t) (sources t) _ (left t _ (c .before .before .found .given .1)))
 
 pub tested-spec : {M : Type 1} → statement M
 tested-spec =
     tie.close
-    (tie.spec tested-requires enum-known-name enum-known-found standing-requires returns returns-2)
+    (tie.spec tested-requires enum-known-name enum-known-found by-status-requires returns returns-2)

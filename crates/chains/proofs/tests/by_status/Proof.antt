@@ -1,8 +1,8 @@
 -- Each case of the status is what the definition says of it.
 use borrow.Author.Tests.{lt-ltb, le-ltb}
 use borrow.Author.Needs.{needs}
-use Rattle.chains.proofs.tests.standing.Statement.{statement}
-use Rattle.chains.proofs.tests.standing.Tie as tie
+use Rattle.chains.proofs.tests.by_status.Statement.{statement}
+use Rattle.chains.proofs.tests.by_status.Tie as tie
 
 enum-told : tie.Need-enum-told
 enum-told c = search needs
@@ -25,7 +25,7 @@ returns-3 c = search needs
 returns-4 : tie.Need-returns-4
 returns-4 c = rw (c .before .before .found .given .1, le-ltb _ _ (c .if1 .left))
 
-pub standing-spec : {M : Type 1} → statement M
-standing-spec =
+pub by-status-spec : {M : Type 1} → statement M
+by-status-spec =
     tie.close
     (tie.spec enum-told enum-told-2 enum-known-found returns returns-2 returns-3 returns-4)
