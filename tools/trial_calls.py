@@ -42,8 +42,8 @@ def answer_of(call, kind, number, long):
     if kind == 0:
         return ("refused", number, long)
     if call.name in ("first", "next"):
-        return ({2: "none", 4: "chain", 5: "end"}[kind],)
-    return ("after", long, (STATUS[kind],) + ((number,) if kind == 1 else ()))
+        return ({2: "none", 4: "chain", 5: "end"}.get(kind, kind),)
+    return ("after", long, (STATUS.get(kind, kind),) + ((number,) if kind == 1 else ()))
 
 
 def unpacked(call, said):
@@ -87,6 +87,8 @@ def heard(call, answer):
 def compared(program, calls, expected):
     """How often each answer was met; the first call that differs from what is expected ends the run."""
     said = subprocess.run([program], input=b"".join(map(packed, calls)), stdout=subprocess.PIPE, check=True).stdout
+    if len(said) != 2 * SAID * len(calls):
+        sys.exit(f"{len(calls)} calls were made, and {len(said)} bytes were answered")
     met = collections.Counter()
     for i, (call, wanted) in enumerate(zip(calls, expected)):
         answered = unpacked(call, said[2 * SAID * i:2 * SAID * (i + 1)])

@@ -12,7 +12,7 @@ import random
 import sys
 
 from independent_lister import Question, chains, joined, made, members, status, words
-from trial_calls import CHAIN, MOVES, TIES, WORDS, Call, compared, features, lendable, spoilt_area, spoilt_count, spoilt_question, table
+from trial_calls import CHAIN, MOVES, TIES, Call, compared, features, lendable, spoilt_area, spoilt_count, spoilt_question, table
 
 Listing = collections.namedtuple("Listing", "q length listed")
 
@@ -45,46 +45,57 @@ def in_a_row():
 
 
 def many_ways():
-    """Every kind on a tie and a move between any two states: many ways and few chains."""
-    v, states = random.randint(2, 8), 3
-    ties = [(i, i + 1, 1) for i in range(v - 1)] + [(random.randrange(v), random.randrange(v), 1) for _ in range(random.randint(0, 3))]
-    moves = [(p, 0, q) for p in range(states) for q in range(states)]
-    return question(v, 1, states, ties, moves, 7, 7, 0, v - 1)
+    """Every kind on each tie, and a move under each kind between any two states: many ways and few chains."""
+    v, k, states = random.randint(2, 8), 3, 2
+    ties = [(i, i + 1, 7) for i in range(v - 1)] + [(random.randrange(v), random.randrange(v), 7) for _ in range(random.randint(0, 3))]
+    moves = [(p, kind, q) for p in range(states) for kind in range(k) for q in range(states)]
+    return question(v, k, states, ties, moves, 3, 3, 0, v - 1)
+
+
+def wide():
+    """Many states and kinds, up to the ceilings, around one mark."""
+    states, k, steps = random.randint(25, 32), random.randint(25, 32), random.randint(1, 4)
+    path = [0] + random.sample(range(1, states), steps)
+    used = random.sample(range(k), random.randint(1, 4))
+    moves = [(p, random.choice(used), q) for p, q in zip(path, path[1:])]
+    moves += [(random.randrange(states), random.choice(used), random.choice(path)) for _ in range(random.randint(0, MOVES - len(moves)))]
+    ties = [(0, 0, 1 << random.choice(used) | random.randrange(2) << random.randrange(k)) for _ in range(random.randint(2, TIES))]
+    return question(1, k, states, ties, moves, 1, 1 << path[-1] | random.randrange(2) << random.randrange(states), 0, 0)
 
 
 def listing(q):
     """The list by brute force, or None where it would take long or does not fit."""
     found = status(q, q.marks * q.states)
-    if q.marks * q.states > WORDS or found[0] == "Found" and found[1] > CHAIN:
+    if found[0] == "Found" and found[1] > CHAIN:
         return None
     if found[0] == "None":
         return Listing(q, None, [])
     rows = 1
     for n in range(found[1]):
         rows *= max(q.froms.count(mark) for mark in range(q.marks))
-    if rows > 40000:
+    if rows > 20000:
         return None
     listed = chains(q, found[1])
     return Listing(q, found[1], listed) if len(listed) <= 400 else None
 
 
-def likely(shape, chains):
+def likely(shape, count):
     """How likely a network is kept: most lists are short, and few chains are worth keeping where there are many ways."""
-    if shape == many_ways:
+    if shape in (many_ways, wide):
         return 0.1
-    return 0.05 if chains <= 1 else 0.1 if chains <= 4 else 0.5 if chains <= 12 else 1
+    return 0.05 if count <= 1 else 0.1 if count <= 4 else 0.5 if count <= 12 else 1
 
 
 def some_listing():
     while True:
-        shape = random.choice((anywhere, anywhere, in_a_row, in_a_row, in_a_row, in_a_row, many_ways))
+        shape = random.choice((anywhere, anywhere, in_a_row, in_a_row, in_a_row, in_a_row, many_ways, wide))
         made_up = listing(shape())
         if made_up and random.random() < likely(shape, len(made_up.listed)):
             return made_up
 
 
 def buffer(front, length):
-    return front + [random.randrange(65536) for _ in range(random.choice((length, length, length + 1, CHAIN)) - len(front))]
+    return front + [random.randrange(65536) for _ in range(random.choice((length, length, min(length + 1, CHAIN), CHAIN)) - len(front))]
 
 
 def whole_list(l):
@@ -148,6 +159,8 @@ def sorts(l):
         yield "one chain"
     if l.length == 0:
         yield "the empty chain"
+    if l.q.states > 24:
+        yield "more than 24 states"
     most = sum(ways(l.q, chain) for chain in l.listed)
     if most > len(l.listed):
         yield "more ways than chains"
