@@ -12,7 +12,7 @@ use Rattle.back.specs.declared.pick.Usable.{Usable}
 use Rattle.back.specs.declared.pick.Usable.the-variants as usable
 
 -- the place e, if it is one of n, with its set
-abbrev pub placeAt : ℕ → (ℕ → ℕ) → ℕ → Place
+abbrev placeAt : ℕ → (ℕ → ℕ) → ℕ → Place
 placeAt n f e = cond (ltb e n) (place.At e (f e)) place.None
 
 -- the smallest place of n, from low on, before whose tie a state is alive
@@ -21,7 +21,7 @@ smallestOf n back low i S = placeAt n (λ e. back e i S) (least (λ e. leb low e
 
 module _ (N : Network) (back : ℕ → ℕ → ℕ → ℕ) where
   -- the tie e, if it is one, with the states alive before it
-  abbrev pub tieAt : ℕ → ℕ → ℕ → Usable
+  abbrev tieAt : ℕ → ℕ → ℕ → Usable
   tieAt i S e = cond (ltb e (ties N)) (usable.Tie (record { 0 = e }) (back e i S)) usable.None
 
   -- the smallest tie into u, from low on, before which a state is alive

@@ -16,7 +16,7 @@ use tables::steps::Steps;
 use walk::Network;
 
 // A tie with the states alive before it.
-pub struct Taken {
+struct Taken {
     pub tie: Tie,
     pub alive: u32,
 }

@@ -17,7 +17,7 @@ use tables::steps::Steps;
 use walk::Network;
 
 // A place in a run with the states alive before the tie that stands there, or that there is none.
-pub enum Place {
+enum Place {
     At(usize, u32),
     None,
 }

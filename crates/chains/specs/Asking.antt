@@ -19,7 +19,7 @@ use Rattle.chains.specs.declared.tests.Asked.{Asked}
 use Rattle.chains.specs.declared.tests.Asked.the-variants.{Refused, None, Found}
 
 -- with any chain buffer of that room the first of refusals 1 to 10 that is given is v
-abbrev pub Gives : Question → ℕ → List ℕ → ℕ → Verdict → Type 0
+abbrev Gives : Question → ℕ → List ℕ → ℕ → Verdict → Type 0
 Gives D r A room v = (c : List ℕ) → length c ≡ room → firstGiven (first-tests D r A c) ≡ v
 
 -- the tests answered so, and left the step table T

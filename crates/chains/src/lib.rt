@@ -34,7 +34,7 @@ use walk::Next;
 use walk::Refusal;
 
 // Where chains end: the mark t, and the states alive there.
-pub struct AtEnd {
+struct AtEnd {
     pub mark: Mark,
     pub states: u32,
 }
