@@ -2,7 +2,7 @@
 """try_chains.py PROGRAM SEED NETWORKS: whole lists by first and next on random small networks, compared with brute force.
 
 For each network first is asked for the earliest chain, and each listed chain is handed back to next, in any order; so the
-list is gone through from every place, and nothing can be remembered. Calls that are spoilt come between: other
+list is gone through from every place, and nothing can be remembered. Calls that are spoilt follow: other
 chains, short buffers, areas before their time, wrong counts, faults in what is lent. Answer, place and every word of
 area and chain buffer are compared with the independent lister's (crates/calls_trial is PROGRAM). It prints how often
 each answer and each sort of network was met. The first call that differs is printed whole, and the exit status is then 1.

@@ -36,7 +36,7 @@ module _ (N : Network) (back : ℕ → ℕ → ℕ → ℕ) where
       let e = lowest N back 0 u i S in fill-append i (fromOf N e) (back e i S) (e ∷ d) x
 
   -- what is known of a place that can be raised; it stands at `at` in d, whose first tie stands at place i
-  pub record Raised (t S i : ℕ) (d : List ℕ) (R : Raise) : Type 0 where
+  pub record Raised (i : ℕ) (d : List ℕ) (R : Raise) : Type 0 where
     pub at : ℕ
     pub place-is : R .place ≡ i + at
     pub place-in : at < length d
@@ -46,7 +46,7 @@ module _ (N : Network) (back : ℕ → ℕ → ℕ → ℕ) where
     pub alive-is : R .alive ≡ back (R .tie) (R .place) before
     pub alive-some : Yes (nonempty (R .alive))
 
-  pub raise-is : (t S i : ℕ) (d : List ℕ) (R : Raise) → raise N back t S i d ≡ some R → Raised t S i d R
+  pub raise-is : (t S i : ℕ) (d : List ℕ) (R : Raise) → raise N back t S i d ≡ some R → Raised i d R
   unfolding raise
   raise-is t S i [] R h = clash cc
   raise-is t S i (x ∷ d) R h = go (ltb e (ties N)) refl h (λ k. raise-is t S (suc i) d R k)
@@ -60,7 +60,7 @@ module _ (N : Network) (back : ℕ → ℕ → ℕ → ℕ) where
       here : Raise
       here = record { place = i; tie = e; alive = back e i X; rest = d }
 
-      later : Raised t S (suc i) d R → Raised t S i (x ∷ d) R
+      later : Raised (suc i) d R → Raised i (x ∷ d) R
       later K = record {
         at = suc (K .at);
         place-is = K .place-is ∙ omega arith;
@@ -73,11 +73,11 @@ module _ (N : Network) (back : ℕ → ℕ → ℕ → ℕ) where
       }
 
       go : (b : Bool) → ltb e (ties N) ≡ b → cond b (some here) (raise N back t S (suc i) d) ≡ some R
-          → (raise N back t S (suc i) d ≡ some R → Raised t S (suc i) d R) → Raised t S i (x ∷ d) R
+          → (raise N back t S (suc i) d ≡ some R → Raised (suc i) d R) → Raised i (x ∷ d) R
       go true b h ih =
           let f : here ≡ R = cc in
           let l = ltb-true e (ties N) b in
-          subst (Raised t S i (x ∷ d)) f
+          subst (Raised i (x ∷ d)) f
           (record {
             at = 0;
             place-is = sym (add-zero i);

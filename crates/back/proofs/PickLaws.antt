@@ -72,12 +72,6 @@ module _ (back : ℕ → ℕ → ℕ → ℕ) (low i S : ℕ) where
       go k true e L = let l = ltb-true k n e in (l, record { met = L .passes l; least = L .none-before }, refl)
       go k false e L = λ m h. L .none-before m (let l = ltb-false k n e in omega arith)
 
-pub run-order : (to : List ℕ) (n u first end : ℕ) → RunInto to n u first end → first ≤ end
-run-order to n u first end R =
-    let no : ¬ (end < first) =
-    λ l. (let x = R .begins .before end l in let y = R .ends .after end (le-refl end) (omega (arith, R .begins .within)) in omega arith) in
-    omega arith
-
 -- the part of a column that the run is
 abbrev pub part : List ℕ → ℕ → ℕ → List ℕ
 part l first end = take (end - first) (drop first l)

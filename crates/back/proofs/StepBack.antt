@@ -20,8 +20,17 @@ use Rattle.walk.proofs.Back as Back
 use Rattle.tables.specs.Steps.{Tabled, steps}
 use Rattle.back.specs.Over.{leadsInto, over, overTie, endsAt}
 
+-- the words of A are those of the definition for r rounds
+abbrev pub RightWords : Network → Condition → ℕ → ℕ → List ℕ → Type 0
+RightWords N C s r A = (v q : ℕ) → v < N .marks → q < C .states → getD A (v * C .states + q) 0 ≡ word N C s r v q
+
+pub same-end : (N : Network) (C : Condition) (s t r : ℕ) (A : List ℕ) → RightWords N C s r A → t < N .marks → (n : ℕ)
+    → endsAt A (C .states) t (C .accept) n ≡ Back.atEnd N C s t r n
+unfolding endsAt Back.atEnd accepts
+same-end N C s t r A right ht n = set-same (C .states) _ _ (λ q hq. ap (λ (w : ℕ). eqb w n and has (C .accept) q) (right t q ht hq))
+
 module _ (N : Network) (C : Condition) (s t r : ℕ) (T A : List ℕ) (ok : Sound N C) (some-mark : 1 ≤ N .marks) (kinds : N .kinds ≤ 32)
-    (states : C .states ≤ 32) (tab : Tabled T C) (right : (v q : ℕ) → v < N .marks → q < C .states → getD A (v * C .states + q) 0 ≡ word N C s r v q) where
+    (states : C .states ≤ 32) (tab : Tabled T C) (right : RightWords N C s r A) where
   leads-on : (e p S : ℕ) → p < C .states → leadsInto T (kindsOf N e) S p ≡ anyBelow (C .states) (λ q. leads N C e p q and has S q)
   unfolding leadsInto steps
   leads-on e p S hp =
@@ -50,7 +59,3 @@ module _ (N : Network) (C : Condition) (s t r : ℕ) (T A : List ℕ) (ok : Soun
   unfolding over Back.back
   same-back = fun-ext (λ e. fun-ext (λ i. fun-ext (λ S. set-same (C .states) _ _ (λ p hp. ap₂ _and_
       (ap (λ (w : ℕ). eqb w i) (right (fromOf N e) p (from-in e) hp)) (leads-on e p S hp)))))
-
-  pub same-end : t < N .marks → (n : ℕ) → endsAt A (C .states) t (C .accept) n ≡ Back.atEnd N C s t r n
-  unfolding endsAt Back.atEnd accepts
-  same-end ht n = set-same (C .states) _ _ (λ q hq. ap (λ (w : ℕ). eqb w n and has (C .accept) q) (right t q ht hq))

@@ -32,6 +32,7 @@ nearer (At i e s) far = At i e s
 nearer Last far = far
 nearer Unlisted far = far
 
+-- where some place can be raised, and where none can
 abbrev pub raiseSeen : Option Raise → Seen
 raiseSeen none = Last
 raiseSeen (some R) = At (R .place) (record { 0 = R .tie }) (R .alive)

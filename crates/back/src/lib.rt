@@ -3,5 +3,5 @@
 
 pub mod fill;
 pub mod look;
-pub mod pick;
+mod pick;
 pub mod step;

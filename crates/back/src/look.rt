@@ -1,4 +1,4 @@
-// A chain is walked back once, and nothing is written: it is not listed, it is the last, or a tie of it can be raised, and of those the one nearer
+// A chain is walked back once, and nothing is written: it is not listed, it is the last, or a tie of it can be raised, and of those the one nearest
 // the front counts.
 
 ghost use mathlib.Core.Bool.{true};

@@ -1,14 +1,14 @@
 -- What going back makes is what first and next answer. Over a right area the step back is the walk's, so the chain that is filled is the first of the
 -- list, a chain goes back all the way exactly if it is listed, and raising the tie nearest the front that can be raised makes the one after it.
 -- The words past the least length follow what is filled, so they stay.
-use Prim.Native.Nat.{ℕ, suc, _*_, _≤_, _<_, _+_}
+use Prim.Native.Nat.{ℕ, suc, _≤_, _<_, _+_}
 use mathlib.Core.Path.{_≡_, refl, sym, subst, ap, _∙_}
 use mathlib.Core.Bool.{Bool, true, false, false≢true}
 use mathlib.Core.List.{List, [], _∷_, _++_, append-nil, head?, List·Memᴰ}
 use mathlib.Core.Option.{Option, none, some}
 use native.Mathlib.Nat.{add-zero, zero-add}
 use native.Mathlib.Omega.{arith}
-use lib.ListN.{length, getD, take, drop, take-append-drop, length-append, length-drop}
+use lib.ListN.{length, take, drop, take-append-drop, length-append, length-drop}
 use lib.Seq.{length-take-le, drop-append-le}
 use mathlib.Mathlib.Data.Bool.Basic.{eq-false-of-not-eq-true}
 use Rattle.walk.specs.declared.Status.the-variants.{Found}
@@ -17,7 +17,6 @@ use Rattle.walk.specs.declared.Next.{Next}
 use Rattle.walk.specs.Network.{Network, fromOf}
 use Rattle.walk.specs.Condition.{Condition}
 use Rattle.walk.specs.Walk.{LeastMatching}
-use Rattle.walk.specs.Area.{word}
 use Rattle.walk.specs.Chains.{member, afterOf}
 use Rattle.walk.specs.Question.{Question, usable, pairs, right, status, listing}
 use Rattle.walk.specs.Refusals.{notListed, first-tests, next-tests}
@@ -41,7 +40,7 @@ use Rattle.tables.specs.Tests.{firstGiven}
 use Rattle.tables.proofs.Verdicts.{refused-answers, given-behind}
 use Rattle.back.specs.Over.{overTie, endsAt}
 use Rattle.back.specs.Chain.{Fillable, raiseSeen, seen}
-use Rattle.back.proofs.StepBack.{same-back, same-end}
+use Rattle.back.proofs.StepBack.{RightWords, same-back, same-end}
 use Rattle.back.proofs.Filling.{fill-append, raise-is, level-back, level-end, fillable}
 use Rattle.chains.specs.Following.{raisedIn, answerOf, leftBy, Raises, Raisable, seenIn, Followed}
 
@@ -85,11 +84,11 @@ module _ (D : Question) (r : ℕ) (A T : List ℕ) (n : ℕ) (P : FoundRight D r
   unfolding usable
   short = found-says D (ready D (P .accepted)) r below n (P .found)
 
-  -- 01: "A least length is at most V×Q - 1"
+  -- a least length stands in a word: it is no more than the rounds done
   pub length-few : n < unreached
   length-few = omega (arith, short .0, below)
 
-  right-words : (v q : ℕ) → v < N .marks → q < C .states → getD A (v * C .states + q) 0 ≡ word N C (D .from) r v q
+  right-words : RightWords N C (D .from) r A
   unfolding right usable
   right-words = area-right N C (D .from) r A (P .long) .0 (P .is-right)
 
@@ -99,9 +98,7 @@ module _ (D : Question) (r : ℕ) (A T : List ℕ) (n : ℕ) (P : FoundRight D r
       same-back N C (D .from) (D .to) r T A ok (a .sizes .marks .0) (a .sizes .kinds .1) (a .condition .states .1) (P .tabled) right-words
 
   end-is : atT ≡ end
-  end-is =
-      let a = P .accepted in
-      same-end N C (D .from) (D .to) r T A ok (a .sizes .marks .0) (a .sizes .kinds .1) (a .condition .states .1) (P .tabled) right-words (a .ends .1) n
+  end-is = same-end N C (D .from) (D .to) r A right-words (P .accepted .ends .1) n
 
   -- a chain can be completed before t, so a state is alive there
   end-some : Yes (nonempty end)
@@ -150,7 +147,6 @@ module _ (D : Question) (r : ℕ) (A T : List ℕ) (n : ℕ) (P : FoundRight D r
   raise-fills : (k : List ℕ) → length k ≡ n → (R : Raise) → raise N back (D .to) end 0 k ≡ some R → Raises N back n (R .place) (R .tie) (R .alive)
   raise-fills k l R h =
       let K = raise-is N back (D .to) end 0 k R h in
-      let at = K .at in
       let p = K .place-is ∙ zero-add (K .at) in
       let S = K .before in
       record {

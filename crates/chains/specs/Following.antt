@@ -25,6 +25,7 @@ pub record Cleared (n : network.Network) (states ties : ℕ) (a : Ask) (from to 
   pub few : k < ceilings .unreached
   pub room : k ≤ length c
 
+-- the answer, and what is left of the buffer c
 abbrev pub answerOf : Seen → Next
 answerOf Unlisted = Refused NotListed 0
 answerOf Last = End

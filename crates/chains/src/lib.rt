@@ -1,6 +1,6 @@
 // Listing: first and next. Refusals 1 to 8 are the tests of `rounds`, 9 and 10 those of `tests`; the chains themselves are found by going `back`.
 
-pub mod tests;
+mod tests;
 
 ghost use mathlib.Core.Bool.{true};
 ghost use mathlib.Core.Path.{_≡_};

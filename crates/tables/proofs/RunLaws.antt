@@ -7,7 +7,7 @@ use mathlib.Core.Path.{_≡_}
 use native.Mathlib.Nat.{le-refl, le-trans, le-of-suc-le-suc, eq-or-lt-of-le, not-suc-le-zero}
 use native.Mathlib.Omega.{arith}
 use lib.ListN.{getD}
-use Rattle.tables.specs.Runs.{Rising, Cut}
+use Rattle.tables.specs.Runs.{Rising, Cut, RunInto}
 
 pub rises-le : (to : List ℕ) (ties marks : ℕ) → Rising to ties marks → (e f : ℕ) → e ≤ f → f < ties → getD to e 0 ≤ getD to f 0
 rises-le to ties marks R e zero l h = let x : e ≡ 0 = omega arith in rw x (le-refl _)
@@ -24,3 +24,10 @@ cut-at to ties marks v at R within passed stop =
   where
     after : (e : ℕ) → at ≤ e → e < ties → suc v ≤ getD to e 0
     after e l h = ⊎-elim (λ x. absurd (omega arith)) (λ x. (let r = rises-le to ties marks R at e l h in omega arith)) stop
+
+-- a run does not end before it begins
+pub run-order : (to : List ℕ) (n u first end : ℕ) → RunInto to n u first end → first ≤ end
+run-order to n u first end R =
+    let no : ¬ (end < first) =
+    λ l. (let x = R .begins .before end l in let y = R .ends .after end (le-refl end) (omega (arith, R .begins .within)) in omega arith) in
+    omega arith

@@ -1,6 +1,6 @@
 // The numbers of marks, ties, kinds and states. Each sort is a type of its own, made only by its checked entry, against V, E, K or Q, so that
-// none is taken for another. A number is read by `index`, to find its place in a column, a row or a set, and a tie by `word`, to
-// stand in a chain.
+// none is taken for another. A number is read by `index`, to find its place in a column, a row or a set; a tie also by `word`, to stand
+// in a chain.
 
 ghost use mathlib.Core.Path.{_≡_};
 ghost use Prim.Native.Nat.{_<_};

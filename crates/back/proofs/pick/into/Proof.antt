@@ -4,10 +4,11 @@ use mathlib.Core.Path.{_≡_, sym, ap, _∙_}
 use native.Mathlib.Omega.{arith}
 use borrow.Author.Needs.{needs}
 use Rattle.walk.specs.Answers.{networkOf}
+use Rattle.tables.proofs.RunLaws.{run-order}
 use Rattle.back.specs.Over.{overTie}
 use Rattle.back.specs.declared.pick.Place.{Place}
 use Rattle.back.specs.declared.pick.Usable.the-variants.{Tie}
-use Rattle.back.proofs.PickLaws.{run-order, part, part-at, part-length, part-ties, PickedBy, picked-by}
+use Rattle.back.proofs.PickLaws.{part, part-at, part-length, part-ties, PickedBy, picked-by}
 use Rattle.back.proofs.pick.into.Statement.{statement}
 use Rattle.back.proofs.pick.into.Tie as tie
 
