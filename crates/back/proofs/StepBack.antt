@@ -1,36 +1,34 @@
 -- Over a right area and with the condition's step table, the step back is the walk's: the words are those of the definition, the table's bits say which
 -- state follows which, and numbers past the ties, the kinds or the states add nothing. So the two are one function, and what is said of one is
 -- said of the other.
-use Prim.Native.Nat.{ℕ, _+_, _*_, _≤_, _<_}
+use Prim.Native.Nat.{ℕ, _≤_, _<_}
 use mathlib.Core.Path.{_≡_, refl, sym, ap, ap₂, _∙_, fun-ext}
 use mathlib.Core.Bool.{Bool, true, false}
 use mathlib.Core.List.{List}
 use native.Mathlib.Omega.{arith}
 use lib.Dec.{ltb, eqb}
-use lib.ListN.{getD, List·getD-eq-default}
+use lib.ListN.{List·getD-eq-default}
 use borrow.Author.Tests.{ltb-true, ltb-false}
 use Rattle.walk.specs.Numbers.{has, _and_, anyBelow}
 use Rattle.walk.specs.Network.{Network, ties, fromOf, kindsOf}
 use Rattle.walk.specs.Condition.{Condition, accepts}
-use Rattle.walk.specs.Area.{leads, word}
+use Rattle.walk.specs.Area.{leads}
 use Rattle.walk.proofs.Numbers.{Yes, and-in, and-of, anyBelow-in, anyBelow-of, yes-same}
 use Rattle.walk.proofs.Sets.{set-same}
 use Rattle.walk.proofs.Executable.{Sound, leads-in, leads-of, leads-states}
+use Rattle.walk.proofs.Words.{Right}
+use Rattle.walk.proofs.Areas.{at}
 use Rattle.walk.proofs.Back as Back
 use Rattle.tables.specs.Steps.{Tabled, steps}
 use Rattle.back.specs.Over.{leadsInto, over, overTie, endsAt}
 
--- the words of A are those of the definition for r rounds
-abbrev pub RightWords : Network → Condition → ℕ → ℕ → List ℕ → Type 0
-RightWords N C s r A = (v q : ℕ) → v < N .marks → q < C .states → getD A (v * C .states + q) 0 ≡ word N C s r v q
-
-pub same-end : (N : Network) (C : Condition) (s t r : ℕ) (A : List ℕ) → RightWords N C s r A → t < N .marks → (n : ℕ)
+pub same-end : (N : Network) (C : Condition) (s t r : ℕ) (A : List ℕ) → Right N C s r (at N C s A) → t < N .marks → (n : ℕ)
     → endsAt A (C .states) t (C .accept) n ≡ Back.atEnd N C s t r n
 unfolding endsAt Back.atEnd accepts
 same-end N C s t r A right ht n = set-same (C .states) _ _ (λ q hq. ap (λ (w : ℕ). eqb w n and has (C .accept) q) (right t q ht hq))
 
 module _ (N : Network) (C : Condition) (s t r : ℕ) (T A : List ℕ) (ok : Sound N C) (some-mark : 1 ≤ N .marks) (kinds : N .kinds ≤ 32)
-    (states : C .states ≤ 32) (tab : Tabled T C) (right : RightWords N C s r A) where
+    (states : C .states ≤ 32) (tab : Tabled T C) (right : Right N C s r (at N C s A)) where
   leads-on : (e p S : ℕ) → p < C .states → leadsInto T (kindsOf N e) S p ≡ anyBelow (C .states) (λ q. leads N C e p q and has S q)
   unfolding leadsInto steps
   leads-on e p S hp =

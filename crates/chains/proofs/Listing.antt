@@ -26,8 +26,8 @@ use Rattle.walk.specs.Answers.{Meets, saidNext}
 use Rattle.walk.proofs.Numbers.{Yes}
 use Rattle.walk.proofs.Sets.{nonempty}
 use Rattle.walk.proofs.Executable.{Sound}
-use Rattle.walk.proofs.Words.{unreached}
-use Rattle.walk.proofs.Areas.{area-right}
+use Rattle.walk.proofs.Words.{unreached, Right}
+use Rattle.walk.proofs.Areas.{at, area-right}
 use Rattle.walk.proofs.Order.{member-law}
 use Rattle.walk.proofs.Refusals.{ready, judged-none, none-append, none-one}
 use Rattle.walk.proofs.Demand2.{found-says}
@@ -40,7 +40,7 @@ use Rattle.tables.specs.Tests.{firstGiven}
 use Rattle.tables.proofs.Verdicts.{refused-answers, given-behind}
 use Rattle.back.specs.Over.{overTie, endsAt}
 use Rattle.back.specs.Chain.{Fillable, raiseSeen, seen}
-use Rattle.back.proofs.StepBack.{RightWords, same-back, same-end}
+use Rattle.back.proofs.StepBack.{same-back, same-end}
 use Rattle.back.proofs.Filling.{fill-append, raise-is, level-back, level-end, fillable}
 use Rattle.chains.specs.Following.{raisedIn, answerOf, leftBy, Raises, Raisable, seenIn, Followed}
 
@@ -88,7 +88,7 @@ module _ (D : Question) (r : ℕ) (A T : List ℕ) (n : ℕ) (P : FoundRight D r
   pub length-few : n < unreached
   length-few = omega (arith, short .0, below)
 
-  right-words : RightWords N C (D .from) r A
+  right-words : Right N C (D .from) r (at N C (D .from) A)
   unfolding right usable
   right-words = area-right N C (D .from) r A (P .long) .0 (P .is-right)
 
