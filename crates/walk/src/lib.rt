@@ -29,6 +29,9 @@ impl Condition {
     pub const STATES: usize = 32;
 
     pub const MOVES: usize = 256;
+
+    // The numbers of its moves, three each.
+    pub const NUMBERS: usize = 3 * Condition::MOVES;
 }
 
 pub struct Move {

@@ -1,0 +1,32 @@
+-- The numbers of a list of moves in one array, in the order of the list, as far as there is room.
+use Prim.Native.Nat.{ℕ, zero, suc, _+_, _*_}
+use mathlib.Core.Bool.{cond}
+use mathlib.Core.List.{List}
+use lib.Dec.{ltb}
+use lib.ListN.{length, getD, set, replicate}
+use Rattle.walk.specs.declared.Move.{Move}
+use Rattle.walk.specs.Ceilings.{ceilings}
+use Rattle.moves.specs.declared.Gathered.{Gathered}
+
+-- what stands past the end of a list
+abbrev pub none : Move
+none = record { from = 0; kind = 0; to = 0 }
+
+-- how many of n moves there is room for
+abbrev pub room : ℕ → ℕ
+room n = cond (ltb n (ceilings .moves)) n (ceilings .moves)
+
+-- the array with the numbers of move j written
+abbrev pub put : List ℕ → ℕ → Move → List ℕ
+put w j m = set (set (set w (3 * j) (m .from)) (3 * j + 1) (m .kind)) (3 * j + 2) (m .to)
+
+unfoldable pub blank : List ℕ
+blank = replicate (3 * ceilings .moves) 0
+
+-- the array with the numbers of the first j moves, the rest being 0
+unfoldable pub filled : ℕ → List Move → List ℕ
+filled zero ms = blank
+filled (suc j) ms = put (filled j ms) j (getD ms j none)
+
+abbrev pub gathered : List Move → Gathered
+gathered ms = record { count = length ms; numbers = filled (room (length ms)) ms }
