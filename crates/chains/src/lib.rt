@@ -21,7 +21,6 @@ use back::fill;
 use back::look;
 use back::look::Seen;
 use back::step;
-use rounds::Rounds;
 use tables::numbers::Mark;
 use tables::numbers::Tie;
 use tables::steps::Steps;
@@ -41,7 +40,7 @@ struct AtEnd {
 
 // "First gives the earliest chain in the order, or says None and writes nothing."
 pub fn first(
-    rounds: Rounds,
+    done: usize,
     network: Network,
     condition: Condition,
     ask: Ask,
@@ -49,17 +48,15 @@ pub fn first(
     to: &[u16],
     kinds: &[u32],
     moves: usize,
-    movefrom: &[u16; Condition::MOVES],
-    movekind: &[u16; Condition::MOVES],
-    moveto: &[u16; Condition::MOVES],
+    numbers: &[u16; Condition::NUMBERS],
     area: &[u16],
     chain: &mut [u16],
 ) -> First
     ensures { λ r. ⌜ Meets
         (first
         (question network condition ask (now (from .entry)) (now (to .entry)) (now (kinds .entry))
-        (movesOf moves (now (movefrom .entry)) (now (movekind .entry)) (now (moveto .entry))))
-        (rounds .done)
+        (movesOf moves (now (numbers .entry))))
+        done
         (now (area .entry))
         (now (chain .entry)))
         (saidFirst r)
@@ -68,7 +65,7 @@ pub fn first(
     let mut table = [0u32; Steps::WORDS];
     let room = chain.len();
     match tests::tested(
-        rounds.done,
+        done,
         network,
         condition,
         ask,
@@ -76,9 +73,7 @@ pub fn first(
         to,
         kinds,
         moves,
-        movefrom,
-        movekind,
-        moveto,
+        numbers,
         &mut table,
         area,
         room,
@@ -108,7 +103,7 @@ pub fn first(
 // "Next reads a chain from the front of the chain buffer (16-bit words, as many as the least length) and puts the chain after it in its place, or
 // says End and writes nothing."
 pub fn next(
-    rounds: Rounds,
+    done: usize,
     network: Network,
     condition: Condition,
     ask: Ask,
@@ -116,17 +111,15 @@ pub fn next(
     to: &[u16],
     kinds: &[u32],
     moves: usize,
-    movefrom: &[u16; Condition::MOVES],
-    movekind: &[u16; Condition::MOVES],
-    moveto: &[u16; Condition::MOVES],
+    numbers: &[u16; Condition::NUMBERS],
     area: &[u16],
     chain: &mut [u16],
 ) -> Next
     ensures { λ r. ⌜ Meets
         (next
         (question network condition ask (now (from .entry)) (now (to .entry)) (now (kinds .entry))
-        (movesOf moves (now (movefrom .entry)) (now (movekind .entry)) (now (moveto .entry))))
-        (rounds .done)
+        (movesOf moves (now (numbers .entry))))
+        done
         (now (area .entry))
         (now (chain .entry)))
         (saidNext r)
@@ -135,7 +128,7 @@ pub fn next(
     let mut table = [0u32; Steps::WORDS];
     let room = chain.len();
     match tests::tested(
-        rounds.done,
+        done,
         network,
         condition,
         ask,
@@ -143,9 +136,7 @@ pub fn next(
         to,
         kinds,
         moves,
-        movefrom,
-        movekind,
-        moveto,
+        numbers,
         &mut table,
         area,
         room,

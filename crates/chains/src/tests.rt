@@ -48,16 +48,14 @@ pub fn tested(
     to: &[u16],
     kinds: &[u32],
     moves: usize,
-    movefrom: &[u16; Condition::MOVES],
-    movekind: &[u16; Condition::MOVES],
-    moveto: &[u16; Condition::MOVES],
+    numbers: &[u16; Condition::NUMBERS],
     table: &mut [u32; Steps::WORDS],
     area: &[u16],
     room: usize,
 ) -> Asked
     requires { ⌜ Clear (now table) (ceilings .kinds * ceilings .states) ⌝ }
     ensures { λ r. ⌜ Asks (question network condition ask (now (from .entry)) (now (to .entry)) (now (kinds .entry))
-        (movesOf moves (now (movefrom .entry)) (now (movekind .entry)) (now (moveto .entry)))) done (now (area .entry)) room
+        (movesOf moves (now (numbers .entry)))) done (now (area .entry)) room
         (now (table .exit)) r ⌝ }
 {
     let mut sources = [0u32; Network::KINDS];
@@ -70,9 +68,7 @@ pub fn tested(
         to,
         kinds,
         moves,
-        movefrom,
-        movekind,
-        moveto,
+        numbers,
         table,
         &mut sources,
         area,

@@ -1,2 +1,4 @@
+pub mod Brought
+pub mod Gathers
 pub mod Loans
 pub mod While

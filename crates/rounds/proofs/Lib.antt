@@ -6,4 +6,3 @@ pub mod Meeting
 pub mod Offered
 pub mod Refusing
 pub mod Standing
-pub mod Unique

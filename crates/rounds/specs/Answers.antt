@@ -5,5 +5,5 @@ use Rattle.rounds.specs.declared.Prepared.{Prepared}
 use Rattle.rounds.specs.declared.Prepared.the-variants.{After, Refused}
 
 abbrev pub saidPrepared : Prepared → Answer Progress
-saidPrepared (After r s) = gives (record { done = r .done; status = s })
+saidPrepared (After r s) = gives (record { done = r; status = s })
 saidPrepared (Refused n p) = refused (number n) p

@@ -25,135 +25,121 @@ use walk::Network;
 use walk::Refusal;
 use walk::Status;
 
-// How many rounds were done. It comes from the caller, so any count can stand in it.
-pub struct Rounds {
-    pub done: usize,
-}
-
-// The answer of start and of a round.
+// The answer of start and of a round: how many rounds were done, with the status after them.
 pub enum Prepared {
-    After(Rounds, Status),
+    After(usize, Status),
     Refused(Refusal, usize),
 }
 
-impl Rounds {
-    // "Start writes the right area for 0 rounds and hands back the count 0."
-    pub fn start(
-        network: Network,
-        condition: Condition,
-        ask: Ask,
-        from: &[u16],
-        to: &[u16],
-        kinds: &[u32],
-        moves: usize,
-        movefrom: &[u16; Condition::MOVES],
-        movekind: &[u16; Condition::MOVES],
-        moveto: &[u16; Condition::MOVES],
-        area: &mut [u16],
-    ) -> Prepared
-        ensures { λ r. ⌜ Meets
-            (start
-            (question network condition ask (now (from .entry)) (now (to .entry)) (now (kinds .entry))
-            (movesOf moves (now (movefrom .entry)) (now (movekind .entry)) (now (moveto .entry))))
-            (now (area .entry)))
-            (saidPrepared r)
-            (now (area .exit)) ⌝ }
-    {
-        match tables::tests::tested(
-            network,
-            condition,
-            ask,
-            from,
-            to,
-            kinds,
-            moves,
-            movefrom,
-            movekind,
-            moveto,
-            area,
-        ) {
-            Verdict::Refused(name, place) => Prepared::Refused(name, place),
-            Verdict::Passed => {
-                rows::open(
+// "Start writes the right area for 0 rounds and hands back the count 0."
+pub fn start(
+    network: Network,
+    condition: Condition,
+    ask: Ask,
+    from: &[u16],
+    to: &[u16],
+    kinds: &[u32],
+    moves: usize,
+    numbers: &[u16; Condition::NUMBERS],
+    area: &mut [u16],
+) -> Prepared
+    ensures { λ r. ⌜ Meets
+        (start
+        (question network condition ask (now (from .entry)) (now (to .entry)) (now (kinds .entry))
+        (movesOf moves (now (numbers .entry))))
+        (now (area .entry)))
+        (saidPrepared r)
+        (now (area .exit)) ⌝ }
+{
+    match tables::tests::tested(
+        network,
+        condition,
+        ask,
+        from,
+        to,
+        kinds,
+        moves,
+        numbers,
+        area,
+    ) {
+        Verdict::Refused(name, place) => Prepared::Refused(name, place),
+        Verdict::Passed => {
+            rows::open(
+                area,
+                network.marks,
+                condition,
+                Mark::tested(ask.from, network.marks),
+            );
+            Prepared::After(
+                0,
+                status::status(
                     area,
                     network.marks,
                     condition,
-                    Mark::tested(ask.from, network.marks),
-                );
-                Prepared::After(
-                    Rounds { done: 0 },
-                    status::status(
-                        area,
-                        network.marks,
-                        condition,
-                        Mark::tested(ask.to, network.marks),
-                        0,
-                    ),
-                )
-            }
+                    Mark::tested(ask.to, network.marks),
+                    0,
+                ),
+            )
         }
     }
+}
 
-    // "A round takes the count of rounds done and hands back the next, moving the area from the right one for r to the right one for r + 1."
-    pub fn round(
-        self,
-        network: Network,
-        condition: Condition,
-        ask: Ask,
-        from: &[u16],
-        to: &[u16],
-        kinds: &[u32],
-        moves: usize,
-        movefrom: &[u16; Condition::MOVES],
-        movekind: &[u16; Condition::MOVES],
-        moveto: &[u16; Condition::MOVES],
-        area: &mut [u16],
-    ) -> Prepared
-        ensures { λ r. ⌜ Meets
-            (round
-            (question network condition ask (now (from .entry)) (now (to .entry)) (now (kinds .entry))
-            (movesOf moves (now (movefrom .entry)) (now (movekind .entry)) (now (moveto .entry))))
-            (self .done)
-            (now (area .entry)))
-            (saidPrepared r)
-            (now (area .exit)) ⌝ }
-    {
-        let mut table = [0u32; Steps::WORDS];
-        let mut sources = [0u32; Network::KINDS];
-        match tests::tested(
-            self.done,
-            network,
-            condition,
-            ask,
-            from,
-            to,
-            kinds,
-            moves,
-            movefrom,
-            movekind,
-            moveto,
-            &mut table,
-            &mut sources,
-            area,
-        ) {
-            Stand::Refused(name, place) => Prepared::Refused(name, place),
-            Stand::At(found) => {
-                let ties = from.len();
-                turn(
-                    self.done,
-                    found,
-                    network,
-                    condition,
-                    ask,
-                    ties,
-                    &from[0..ties],
-                    &to[0..ties],
-                    &kinds[0..ties],
-                    &table,
-                    &sources,
-                    area,
-                )
-            }
+// "A round takes the count of rounds done and hands back the next, moving the area from the right one for r to the right one for r + 1."
+// The count comes from the caller, so it can be any.
+pub fn round(
+    done: usize,
+    network: Network,
+    condition: Condition,
+    ask: Ask,
+    from: &[u16],
+    to: &[u16],
+    kinds: &[u32],
+    moves: usize,
+    numbers: &[u16; Condition::NUMBERS],
+    area: &mut [u16],
+) -> Prepared
+    ensures { λ r. ⌜ Meets
+        (round
+        (question network condition ask (now (from .entry)) (now (to .entry)) (now (kinds .entry))
+        (movesOf moves (now (numbers .entry))))
+        done
+        (now (area .entry)))
+        (saidPrepared r)
+        (now (area .exit)) ⌝ }
+{
+    let mut table = [0u32; Steps::WORDS];
+    let mut sources = [0u32; Network::KINDS];
+    match tests::tested(
+        done,
+        network,
+        condition,
+        ask,
+        from,
+        to,
+        kinds,
+        moves,
+        numbers,
+        &mut table,
+        &mut sources,
+        area,
+    ) {
+        Stand::Refused(name, place) => Prepared::Refused(name, place),
+        Stand::At(found) => {
+            let ties = from.len();
+            turn(
+                done,
+                found,
+                network,
+                condition,
+                ask,
+                ties,
+                &from[0..ties],
+                &to[0..ties],
+                &kinds[0..ties],
+                &table,
+                &sources,
+                area,
+            )
         }
     }
 }
@@ -191,7 +177,7 @@ fn turn(
         (now (area .entry)) r (now (area .exit)) ⌝ }
 {
     if !going(found) {
-        return Prepared::After(Rounds { done: done }, found);
+        return Prepared::After(done, found);
     }
     let r = done as u16;
     advance::advance(
@@ -208,7 +194,7 @@ fn turn(
         area,
     );
     Prepared::After(
-        Rounds { done: done + 1 },
+        done + 1,
         status::status(
             area,
             network.marks,

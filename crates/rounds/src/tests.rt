@@ -79,16 +79,14 @@ pub fn tested(
     to: &[u16],
     kinds: &[u32],
     moves: usize,
-    movefrom: &[u16; Condition::MOVES],
-    movekind: &[u16; Condition::MOVES],
-    moveto: &[u16; Condition::MOVES],
+    numbers: &[u16; Condition::NUMBERS],
     table: &mut [u32; Steps::WORDS],
     sources: &mut [u32; Network::KINDS],
     area: &[u16],
 ) -> Stand
     requires { ⌜ Clear (now table) (ceilings .kinds * ceilings .states) × Clear (now sources) (ceilings .kinds) ⌝ }
     ensures { λ r. ⌜ Judges (question network condition ask (now (from .entry)) (now (to .entry)) (now (kinds .entry))
-        (movesOf moves (now (movefrom .entry)) (now (movekind .entry)) (now (moveto .entry)))) done (now (area .entry))
+        (movesOf moves (now (numbers .entry)))) done (now (area .entry))
         (now (table .exit)) (now (sources .exit)) r ⌝ }
 {
     match tables::tests::tested(
@@ -99,23 +97,12 @@ pub fn tested(
         to,
         kinds,
         moves,
-        movefrom,
-        movekind,
-        moveto,
+        numbers,
         area,
     ) {
         Verdict::Refused(name, place) => Stand::Refused(name, place),
         Verdict::Passed => {
-            steps::fill(
-                table,
-                sources,
-                condition,
-                network.kinds,
-                moves,
-                movefrom,
-                movekind,
-                moveto,
-            );
+            steps::fill(table, sources, condition, network.kinds, moves, numbers);
             let ties = from.len();
             of_area(
                 done,

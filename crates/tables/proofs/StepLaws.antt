@@ -19,7 +19,7 @@ use Rattle.walk.specs.Ceilings.{ceilings}
 use Rattle.walk.specs.Numbers.{has, _and_, anyBelow}
 use Rattle.walk.specs.Condition.{Condition, moveAt, follows}
 use Rattle.walk.proofs.Numbers.{Yes, and-in, and-of, or-in, eqb-of, anyBelow-in, anyBelow-of, length-table, getD-table, yes-same}
-use Rattle.tables.specs.Lent.{movesOf}
+use Rattle.tables.specs.Lent.{moveOf, movesOf}
 use Rattle.tables.specs.Steps.{Clear, InRange, Filled, steps}
 use Rattle.tables.proofs.SetLaws.{Walk, walk-end, has-or, has-none, one-is}
 
@@ -72,25 +72,25 @@ pub next-none : (T : List ℕ) (kinds p q : ℕ) → has 0 q ≡ anyBelow 0 (by 
 unfolding anyBelow
 next-none T kinds p q = has-none q
 
--- the moves that three columns hold
+-- the moves that one array holds
 abbrev none : Move
 none = record { from = 0; kind = 0; to = 0 }
 
 -- move j is in range
-pub record MoveIn (f k t : List ℕ) (K Q j : ℕ) : Type 0 where
+pub record MoveIn (numbers : List ℕ) (K Q j : ℕ) : Type 0 where
   pub few : j < ceilings .moves
-  pub from-in : getD f j 0 < Q
-  pub kind-in : getD k j 0 < K
-  pub to-in : getD t j 0 < Q
+  pub from-in : getD numbers (3 * j) 0 < Q
+  pub kind-in : getD numbers (3 * j + 1) 0 < K
+  pub to-in : getD numbers (3 * j + 2) 0 < Q
 
-module _ (C : Condition) (n : ℕ) (f k t : List ℕ) (e : C .moves ≡ movesOf n f k t) where
-  move-is : (j : ℕ) → j < n → moveAt C j ≡ record { from = getD f j 0; kind = getD k j 0; to = getD t j 0 }
+module _ (C : Condition) (n : ℕ) (numbers : List ℕ) (e : C .moves ≡ movesOf n numbers) where
+  move-is : (j : ℕ) → j < n → moveAt C j ≡ moveOf numbers j
   move-is j l = ap (λ (m : List Move). getD m j none) e ∙ getD-table n _ j none l
 
   count-is : length (C .moves) ≡ n
   count-is = ap length e ∙ length-table n _
 
-  pub move-in : {K : ℕ} → InRange K C → (j : ℕ) → j < n → MoveIn f k t K (C .states) j
+  pub move-in : {K : ℕ} → InRange K C → (j : ℕ) → j < n → MoveIn numbers K (C .states) j
   move-in R j l =
       let m = move-is j l in
       let c : j < length (C .moves) = omega (arith, count-is) in
@@ -128,8 +128,8 @@ put-has T at n h i q = go (eqb at i) refl
     go false e = ap (λ (m : ℕ). has m q) (getD-set-other T at i _ 0 (λ x. eqb-false at i e (sym x)))
 
 -- move j goes from p by kind a to q
-abbrev pub goes : List ℕ → List ℕ → List ℕ → ℕ → ℕ → ℕ → ℕ → Bool
-goes f k t p a q j = eqb (getD f j 0) p and eqb (getD k j 0) a and eqb (getD t j 0) q
+abbrev pub goes : List ℕ → ℕ → ℕ → ℕ → ℕ → Bool
+goes numbers p a q j = eqb (getD numbers (3 * j) 0) p and eqb (getD numbers (3 * j + 1) 0) a and eqb (getD numbers (3 * j + 2) 0) q
 
 -- the place of a kind and a state is that of no other pair
 place-is : (a b d x p q : ℕ) → a < 32 → p < 32 → (eqb (b * 32 + a) (x * 32 + p) and eqb d q) ≡ (eqb a p and eqb b x and eqb d q)
@@ -148,15 +148,15 @@ place-is a b d x p q ha hp = yes-same there back
         and-of (eqb-of (ap₂ (λ (m n : ℕ). m * 32 + n) (eqb-true b x v) (eqb-true a p u))) z
 
 -- the table and the sources of the first j moves
-pub record UpTo (T S f k t : List ℕ) (j : ℕ) : Type 0 where
+pub record UpTo (T S numbers : List ℕ) (j : ℕ) : Type 0 where
   pub size : length T ≡ ceilings .kinds * ceilings .states
   pub sources : length S ≡ ceilings .kinds
-  pub says : (a p q : ℕ) → a < 32 → p < 32 → has (getD T (a * 32 + p) 0) q ≡ anyBelow j (goes f k t p a q)
+  pub says : (a p q : ℕ) → a < 32 → p < 32 → has (getD T (a * 32 + p) 0) q ≡ anyBelow j (goes numbers p a q)
   pub covers : (a p q : ℕ) → a < 32 → p < 32 → Yes (has (getD T (a * 32 + p) 0) q) → Yes (has (getD S a 0) p)
 
-pub up-to-none : (T S f k t : List ℕ) → Clear T (ceilings .kinds * ceilings .states) → Clear S (ceilings .kinds) → UpTo T S f k t 0
+pub up-to-none : (T S numbers : List ℕ) → Clear T (ceilings .kinds * ceilings .states) → Clear S (ceilings .kinds) → UpTo T S numbers 0
 unfolding anyBelow
-up-to-none T S f k t z s = record {
+up-to-none T S numbers z s = record {
   size = z .size;
   sources = s .size;
   says = λ a p q _ _. empty a p q;
@@ -167,22 +167,23 @@ up-to-none T S f k t z s = record {
     empty : (a p q : ℕ) → has (getD T (a * 32 + p) 0) q ≡ false
     empty a p q = ap (λ (n : ℕ). has n q) (z .zero (a * 32 + p)) ∙ has-none q
 
-pub up-to-more : (T S f k t T′ S′ : List ℕ) (j a b d : ℕ) → a ≡ getD f j 0 → b ≡ getD k j 0 → d ≡ getD t j 0 → a < 32 → b < 32
+pub up-to-more : (T S numbers T′ S′ : List ℕ) (j a b d : ℕ) → a ≡ getD numbers (3 * j) 0 → b ≡ getD numbers (3 * j + 1) 0
+    → d ≡ getD numbers (3 * j + 2) 0 → a < 32 → b < 32
     → T′ ≡ set T (b * 32 + a) (bitOr (getD T (b * 32 + a) 0) (2 ^ d)) → S′ ≡ set S b (bitOr (getD S b 0) (2 ^ a))
-    → UpTo T S f k t j → UpTo T′ S′ f k t (j + 1)
-up-to-more T S f k t T′ S′ j a b d ea eb ed ha hb eT eS U =
+    → UpTo T S numbers j → UpTo T′ S′ numbers (j + 1)
+up-to-more T S numbers T′ S′ j a b d ea eb ed ha hb eT eS U =
     record { size = ap length eT ∙ length-set T (b * 32 + a) _ ∙ U .size; sources = ap length eS ∙ length-set S b _ ∙ U .sources; says = says; covers = covers }
   where
     put : (x p q : ℕ) → p < 32 → has (getD T′ (x * 32 + p) 0) q ≡ ((eqb a p and eqb b x and eqb d q) || has (getD T (x * 32 + p) 0) q)
     put x p q hp =
         rw eT (put-has T (b * 32 + a) d (omega (arith, U .size)) (x * 32 + p) q ∙ ap (λ (y : Bool). y || has (getD T (x * 32 + p) 0) q) (place-is a b d x p q ha hp))
 
-    says : (x p q : ℕ) → x < 32 → p < 32 → has (getD T′ (x * 32 + p) 0) q ≡ anyBelow (j + 1) (goes f k t p x q)
+    says : (x p q : ℕ) → x < 32 → p < 32 → has (getD T′ (x * 32 + p) 0) q ≡ anyBelow (j + 1) (goes numbers p x q)
     says x p q hx hp =
-        let e : eqb a p and eqb b x and eqb d q ≡ goes f k t p x q j = cc in
+        let e : eqb a p and eqb b x and eqb d q ≡ goes numbers p x q j = cc in
         put x p q hp
         ∙ ap₂ _||_ e (U .says x p q hx hp)
-        ∙ sym (any-more j (goes f k t p x q))
+        ∙ sym (any-more j (goes numbers p x q))
 
     source : (x p : ℕ) → has (getD S′ x 0) p ≡ ((eqb b x and eqb a p) || has (getD S x 0) p)
     source x p = rw eS (put-has S b a (omega (arith, U .sources)) x p)
@@ -195,17 +196,17 @@ up-to-more T S f k t T′ S′ j a b d ea eb ed ha hb eT eS U =
         (λ w. or-inr (eqb b x and eqb a p) (has (getD S x 0) p) (U .covers x p q hx hp w))
         (or-in (eqb a p and eqb b x and eqb d q) (has (getD T (x * 32 + p) 0) q) (sym (put x p q hp) ∙ y))
 
-pub up-to-all : {K : ℕ} (C : Condition) (T S f k t : List ℕ) (n : ℕ) → C .moves ≡ movesOf n f k t → InRange K C → UpTo T S f k t n → Filled T S C
+pub up-to-all : {K : ℕ} (C : Condition) (T S numbers : List ℕ) (n : ℕ) → C .moves ≡ movesOf n numbers → InRange K C → UpTo T S numbers n → Filled T S C
 unfolding follows
-up-to-all C T S f k t n e R U = record { tabled = λ a p q ha hp. U .says a p q ha hp ∙ same a p q; leads = record { narrow = narrow; covers = U .covers } }
+up-to-all C T S numbers n e R U = record { tabled = λ a p q ha hp. U .says a p q ha hp ∙ same a p q; leads = record { narrow = narrow; covers = U .covers } }
   where
-    same : (a p q : ℕ) → anyBelow n (goes f k t p a q) ≡ follows C p a q
+    same : (a p q : ℕ) → anyBelow n (goes numbers p a q) ≡ follows C p a q
     same a p q =
-        any-same n _ _ (λ j l. ap (λ (m : Move). eqb (m .from) p and eqb (m .kind) a and eqb (m .to) q) (sym (move-is C n f k t e j l)))
-        ∙ ap (λ (m : ℕ). anyBelow m (λ j. eqb (moveAt C j .from) p and eqb (moveAt C j .kind) a and eqb (moveAt C j .to) q)) (sym (count-is C n f k t e))
+        any-same n _ _ (λ j l. ap (λ (m : Move). eqb (m .from) p and eqb (m .kind) a and eqb (m .to) q) (sym (move-is C n numbers e j l)))
+        ∙ ap (λ (m : ℕ). anyBelow m (λ j. eqb (moveAt C j .from) p and eqb (moveAt C j .kind) a and eqb (moveAt C j .to) q)) (sym (count-is C n numbers e))
 
     narrow : (a p q : ℕ) → a < 32 → p < 32 → Yes (has (getD T (a * 32 + p) 0) q) → q < C .states
     narrow a p q ha hp y =
-        let (j, l, w) = anyBelow-in n (goes f k t p a q) (sym (U .says a p q ha hp) ∙ y) in
+        let (j, l, w) = anyBelow-in n (goes numbers p a q) (sym (U .says a p q ha hp) ∙ y) in
         let (u, v) = and-in _ _ w in
-        omega (arith, eqb-true (getD t j 0) q (and-in _ _ v .1), move-in C n f k t e R j l .to-in)
+        omega (arith, eqb-true (getD numbers (3 * j + 2) 0) q (and-in _ _ v .1), move-in C n numbers e R j l .to-in)

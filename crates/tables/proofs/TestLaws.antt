@@ -1,7 +1,7 @@
--- What the tests behind refusals 1, 2 and 4 to 6 ask for, in the columns that are lent: a test is not given exactly where each of its parts
+-- What the tests behind refusals 1, 2 and 4 to 6 ask for, in the numbers that are lent: a test is not given exactly where each of its parts
 -- holds. So where the code refuses early, a part is at odds with what it tested there; and where it answers by the last part alone, that part and
 -- the whole test pass together.
-use Prim.Native.Nat.{ℕ, _≤_, _<_}
+use Prim.Native.Nat.{ℕ, _+_, _*_, _≤_, _<_}
 use mathlib.Core.Path.{_≡_, refl, sym, ap}
 use mathlib.Core.Bool.{Bool, true, false, not, false≢true}
 use mathlib.Core.List.{List, []}
@@ -20,7 +20,7 @@ use Rattle.walk.specs.Refusals.{sizes, badSizes, badTieAt, badStates, badMoveAt
 use Rattle.walk.specs.Demands.{SizesRight}
 use Rattle.walk.proofs.Numbers.{and-in, and-of, length-table, getD-table}
 use Rattle.walk.proofs.Refusals.{row-1}
-use Rattle.tables.specs.Lent.{movesOf}
+use Rattle.tables.specs.Lent.{moveOf, movesOf}
 
 pub is-given : {b : Bool} → (b ≡ false → ⊥) → true ≡ b
 is-given {b = true} h = refl
@@ -48,13 +48,13 @@ tie-law N e = (
   λ (a, b, y). ap not (and-of (lt-ltb _ _ a) (and-of (lt-ltb _ _ b) y)),
 )
 
-module _ (c : lent.Condition) (n : ℕ) (f k t : List ℕ) where
-  pub states-law : (badStates (conditionOf c (movesOf n f k t)) ≡ false)
+module _ (c : lent.Condition) (n : ℕ) (numbers : List ℕ) where
+  pub states-law : (badStates (conditionOf c (movesOf n numbers)) ≡ false)
       ↔ ((1 ≤ c .states) × (c .states ≤ ceilings .states) × (n ≤ ceilings .moves) × (onlyBelow (c .states) (c .start) ≡ true) ×
       (onlyBelow (c .states) (c .accept) ≡ true))
   unfolding badStates
   states-law =
-      let l : length (movesOf n f k t) ≡ n = length-table n _ in (
+      let l : length (movesOf n numbers) ≡ n = length-table n _ in (
         λ g. let (x, y) = and-in _ _ (not-false _ g) in
             let (a, b) = and-in _ _ x in
             let (m, z) = and-in _ _ y in
@@ -63,11 +63,12 @@ module _ (c : lent.Condition) (n : ℕ) (f k t : List ℕ) where
         λ (a, b, m, s, u). ap not (and-of (and-of (le-leb _ _ a) (le-leb _ _ b)) (and-of (rw l (le-leb n (ceilings .moves) m)) (and-of s u))),
       )
 
-  pub move-law : (K j : ℕ) → j < n → (badMoveAt K (conditionOf c (movesOf n f k t)) j ≡ false)
-      ↔ ((getD f j 0 < c .states) × (getD k j 0 < K) × (getD t j 0 < c .states))
+  pub move-law : (K j : ℕ) → j < n → (badMoveAt K (conditionOf c (movesOf n numbers)) j ≡ false)
+      ↔ ((getD numbers (3 * j) 0 < c .states) × (getD numbers (3 * j + 1) 0 < K) × (getD numbers (3 * j + 2) 0 < c .states))
   unfolding badMoveAt
   move-law K j h =
-      let m : moveAt (conditionOf c (movesOf n f k t)) j ≡ record { from = getD f j 0; kind = getD k j 0; to = getD t j 0 } = getD-table n _ j _ h in (
+      let m : moveAt (conditionOf c (movesOf n numbers)) j
+      ≡ moveOf numbers j = getD-table n _ j _ h in (
         λ g. let (x, y) = and-in _ _ (not-false _ (rw m at g)) in
             let (z, u) = and-in _ _ y in
             (ltb-true _ _ x, ltb-true _ _ z, ltb-true _ _ u),

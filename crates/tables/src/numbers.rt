@@ -38,7 +38,7 @@ pub enum StateEntry {
     Not,
 }
 
-// A number of a column.
+// A number of a column, or of the moves.
 pub fn wide(column: &[u16], i: usize) -> usize
     requires { ⌜ i < length (now column) ⌝ }
     ensures { λ r. ⌜ r ≡ getD (now (column .entry)) i 0 ⌝ }
@@ -165,12 +165,12 @@ impl Kind {
         }
     }
 
-    // The kind of move j, by a tested column.
-    pub fn fetched(column: &[u16], j: usize, kinds: usize) -> Kind
-        requires { ⌜ (j < length (now column)) × (getD (now column) j 0 < kinds) ⌝ }
-        ensures { λ r. ⌜ Entered (r .0) (getD (now (column .entry)) j 0) kinds ⌝ }
+    // A kind among the tested numbers of the moves.
+    pub fn fetched(numbers: &[u16], i: usize, kinds: usize) -> Kind
+        requires { ⌜ (i < length (now numbers)) × (getD (now numbers) i 0 < kinds) ⌝ }
+        ensures { λ r. ⌜ Entered (r .0) (getD (now (numbers .entry)) i 0) kinds ⌝ }
     {
-        Kind::tested(wide(column, j), kinds)
+        Kind::tested(wide(numbers, i), kinds)
     }
 
     pub fn index(self) -> usize
@@ -201,12 +201,12 @@ impl State {
         }
     }
 
-    // A state of move j, by a tested column.
-    pub fn fetched(column: &[u16], j: usize, states: usize) -> State
-        requires { ⌜ (j < length (now column)) × (getD (now column) j 0 < states) ⌝ }
-        ensures { λ r. ⌜ Entered (r .0) (getD (now (column .entry)) j 0) states ⌝ }
+    // A state among the tested numbers of the moves.
+    pub fn fetched(numbers: &[u16], i: usize, states: usize) -> State
+        requires { ⌜ (i < length (now numbers)) × (getD (now numbers) i 0 < states) ⌝ }
+        ensures { λ r. ⌜ Entered (r .0) (getD (now (numbers .entry)) i 0) states ⌝ }
     {
-        State::tested(wide(column, j), states)
+        State::tested(wide(numbers, i), states)
     }
 
     pub fn index(self) -> usize

@@ -42,28 +42,26 @@ fn put(
     sources[kind] = crate::sets::with(sources[kind], p.index());
 }
 
-// The table of the moves.
+// The table of the moves. Each has three numbers beside each other: its from state, its kind and its to state.
 pub fn fill(
     table: &mut [u32; Steps::WORDS],
     sources: &mut [u32; Network::KINDS],
     condition: Condition,
     kinds: usize,
     moves: usize,
-    movefrom: &[u16; Condition::MOVES],
-    movekind: &[u16; Condition::MOVES],
-    moveto: &[u16; Condition::MOVES],
+    numbers: &[u16; Condition::NUMBERS],
 )
     requires { ⌜ Clear (now table) (ceilings .kinds * ceilings .states) × Clear (now sources) (ceilings .kinds)
-        × InRange kinds (conditionOf condition (movesOf moves (now movefrom) (now movekind) (now moveto))) ⌝ }
-    ensures { λ _. ⌜ Filled (now (table .exit)) (now (sources .exit)) (conditionOf condition (movesOf moves (now (movefrom .entry))
-        (now (movekind .entry)) (now (moveto .entry)))) ⌝ }
+        × InRange kinds (conditionOf condition (movesOf moves (now numbers))) ⌝ }
+    ensures { λ _. ⌜ Filled (now (table .exit)) (now (sources .exit)) (conditionOf condition (movesOf moves (now (numbers .entry)))) ⌝ }
 {
     let states = condition.states;
     let mut j = 0;
     while j < moves {
-        let p = State::fetched(movefrom, j, states);
-        let k = Kind::fetched(movekind, j, kinds);
-        let q = State::fetched(moveto, j, states);
+        let at = 3 * j;
+        let p = State::fetched(numbers, at, states);
+        let k = Kind::fetched(numbers, at + 1, kinds);
+        let q = State::fetched(numbers, at + 2, states);
         put(table, sources, p, k, q);
         j += 1;
     }

@@ -106,7 +106,7 @@ fn first_late(ties: usize, to: &[u16]) -> usize
 
 // "Q or the move count outside its ceiling, or a start or accepting state not below Q"
 fn bad_states(condition: Condition, moves: usize) -> bool
-    ensures { λ r. ⌜ ((f k t : List ℕ) → r ≡ badStates (conditionOf condition (movesOf moves f k t))) ⌝ }
+    ensures { λ r. ⌜ ((numbers : List ℕ) → r ≡ badStates (conditionOf condition (movesOf moves numbers))) ⌝ }
 {
     let states = condition.states;
     if states < 1 {
@@ -129,22 +129,20 @@ fn bad_move(
     kinds: usize,
     condition: Condition,
     moves: usize,
-    movefrom: &[u16; Condition::MOVES],
-    movekind: &[u16; Condition::MOVES],
-    moveto: &[u16; Condition::MOVES],
+    numbers: &[u16; Condition::NUMBERS],
     j: usize,
 ) -> bool
     requires { ⌜ (j < moves) × (j < ceilings .moves) ⌝ }
-    ensures { λ r. ⌜ r ≡ badMoveAt kinds (conditionOf condition (movesOf moves (now (movefrom .entry)) (now (movekind .entry))
-        (now (moveto .entry)))) j ⌝ }
+    ensures { λ r. ⌜ r ≡ badMoveAt kinds (conditionOf condition (movesOf moves (now (numbers .entry)))) j ⌝ }
 {
-    if wide(movefrom, j) >= condition.states {
+    let at = 3 * j;
+    if wide(numbers, at) >= condition.states {
         return true;
     }
-    if wide(movekind, j) >= kinds {
+    if wide(numbers, at + 1) >= kinds {
         return true;
     }
-    wide(moveto, j) >= condition.states
+    wide(numbers, at + 2) >= condition.states
 }
 
 // The first such move, or the number of moves.
@@ -152,17 +150,14 @@ fn first_bad_move(
     kinds: usize,
     condition: Condition,
     moves: usize,
-    movefrom: &[u16; Condition::MOVES],
-    movekind: &[u16; Condition::MOVES],
-    moveto: &[u16; Condition::MOVES],
+    numbers: &[u16; Condition::NUMBERS],
 ) -> usize
     requires { ⌜ moves ≤ ceilings .moves ⌝ }
-    ensures { λ r. ⌜ r ≡ least (badMoveAt kinds (conditionOf condition (movesOf moves (now (movefrom .entry)) (now (movekind .entry))
-        (now (moveto .entry))))) moves ⌝ }
+    ensures { λ r. ⌜ r ≡ least (badMoveAt kinds (conditionOf condition (movesOf moves (now (numbers .entry))))) moves ⌝ }
 {
     let mut j = 0;
     while j < moves {
-        if bad_move(kinds, condition, moves, movefrom, movekind, moveto, j) {
+        if bad_move(kinds, condition, moves, numbers, j) {
             return j;
         }
         j += 1;
@@ -197,13 +192,11 @@ pub fn tested(
     to: &[u16],
     kinds: &[u32],
     moves: usize,
-    movefrom: &[u16; Condition::MOVES],
-    movekind: &[u16; Condition::MOVES],
-    moveto: &[u16; Condition::MOVES],
+    numbers: &[u16; Condition::NUMBERS],
     area: &[u16],
 ) -> Verdict
     ensures { λ r. ⌜ r ≡ firstGiven (start-tests (question network condition ask (now (from .entry)) (now (to .entry)) (now (kinds .entry))
-        (movesOf moves (now (movefrom .entry)) (now (movekind .entry)) (now (moveto .entry)))) (now (area .entry))) ⌝ }
+        (movesOf moves (now (numbers .entry)))) (now (area .entry))) ⌝ }
 {
     if bad_sizes(network, from, to, kinds) {
         return Verdict::Refused(Refusal::Sizes, 0);
@@ -220,7 +213,7 @@ pub fn tested(
     if bad_states(condition, moves) {
         return Verdict::Refused(Refusal::BadCondition, 0);
     }
-    let wrong = first_bad_move(network.kinds, condition, moves, movefrom, movekind, moveto);
+    let wrong = first_bad_move(network.kinds, condition, moves, numbers);
     if wrong < moves {
         return Verdict::Refused(Refusal::BadMove, wrong);
     }

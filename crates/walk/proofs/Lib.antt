@@ -11,6 +11,7 @@ pub mod Listings
 pub mod Back
 pub mod FirstNext
 pub mod Refusals
+pub mod TooManyMoves
 pub mod Demand1
 pub mod Preparations
 pub mod Demand2

@@ -29,22 +29,22 @@ start c = c .before .before .before .before .before .before .before
 abbrev asked : tie.After-tested → Question
 asked c =
     let A = start c .args in
-    question (A .network) (A .condition) (A .ask) (A .from .now) (A .to .now) (A .kinds .now) (movesOf (A .moves) (A .movefrom .now) (A .movekind .now) (A .moveto .now))
+    question (A .network) (A .condition) (A .ask) (A .from .now) (A .to .now) (A .kinds .now) (movesOf (A .moves) (A .numbers .now))
 
 -- the step table, as the tests leave it
 abbrev table : tie.After-tested → List ℕ
-table c = c .tested .last .1 .1 .1 .1 .1 .1 .1 .1 .1 .1 .1 .0
+table c = c .tested .last .1 .1 .1 .1 .1 .1 .1 .1 .1 .0
 
 -- what the tests left
 left : (c : tie.After-tested) (x : Asked) → c .tested .result ≡ x
-    → let A = start c .args in Asks (asked c) (A .rounds .done) (A .area .now) (length (A .chain .now)) (table c) x
+    → let A = start c .args in Asks (asked c) (A .done) (A .area .now) (length (A .chain .now)) (table c) x
 left c x e =
     let A = start c .args in
-    subst (λ (y : Asked). Asks (asked c) (A .rounds .done) (A .area .now) (length (A .chain .now)) (table c) y) e (c .tested .ensures)
+    subst (λ (y : Asked). Asks (asked c) (A .done) (A .area .now) (length (A .chain .now)) (table c) y) e (c .tested .ensures)
 
 -- where a length is found
 found : (c : tie.After-n) → let t = c .before .before in let A = start t .args in
-    Listable (asked t) (A .rounds .done) (A .area .now) (A .chain .now) (table t) (c .n .given .0 .0)
+    Listable (asked t) (A .done) (A .area .now) (A .chain .now) (table t) (c .n .given .0 .0)
 found c = listable _ _ _ _ _ _ (left (c .before .before) _ (c .n .given .1))
 
 -- the other columns are as long as the first

@@ -36,8 +36,8 @@ cast-r c = let h = bound (c .before) in omega arith
 advance-requires : tie.Need-advance-requires
 advance-requires c κs = let g = c .before .before in let h = bound g in (start g .pre .0, omega arith, start g .pre .3)
 
-add-t20 : tie.Need-add-t20
-add-t20 c = let h = bound (c .before .before .before .before .before) in omega arith
+add-t19 : tie.Need-add-t19
+add-t19 c = let h = bound (c .before .before .before .before .before) in omega arith
 
 tested-requires : tie.Need-tested-requires
 tested-requires c κs = search needs
@@ -80,7 +80,7 @@ turn-spec =
     returns
     cast-r
     advance-requires
-    add-t20
+    add-t19
     tested-requires
     add-status
     status-requires

@@ -22,14 +22,14 @@ start c = c .before .before .before .before .before .before .before
 abbrev asked : tie.After-tested → Question
 asked c =
     let A = start c .args in
-    question (A .network) (A .condition) (A .ask) (A .from .now) (A .to .now) (A .kinds .now) (movesOf (A .moves) (A .movefrom .now) (A .movekind .now) (A .moveto .now))
+    question (A .network) (A .condition) (A .ask) (A .from .now) (A .to .now) (A .kinds .now) (movesOf (A .moves) (A .numbers .now))
 
 -- the step table and its sources, as the tests leave them
 abbrev table : tie.After-tested → List ℕ
-table c = c .tested .last .1 .1 .1 .1 .1 .1 .1 .1 .1 .1 .1 .0
+table c = c .tested .last .1 .1 .1 .1 .1 .1 .1 .1 .1 .0
 
 abbrev sources : tie.After-tested → List ℕ
-sources c = c .tested .last .1 .1 .1 .1 .1 .1 .1 .1 .1 .1 .1 .1 .0
+sources c = c .tested .last .1 .1 .1 .1 .1 .1 .1 .1 .1 .1 .0
 
 -- what the tests of a round left
 left : (c : tie.After-tested) (x : Stand) → c .tested .result ≡ x → Judges (asked c) (start c .args .done) (start c .args .area .now) (table c) (sources c) x

@@ -23,7 +23,7 @@ abbrev start : tie.After-tested → tie.Start
 start c = c .before .before .before .before .before
 
 abbrev lent-moves : tie.After-tested → List Move
-lent-moves c = let A = start c .args in movesOf (A .moves) (A .movefrom .now) (A .movekind .now) (A .moveto .now)
+lent-moves c = let A = start c .args in movesOf (A .moves) (A .numbers .now)
 
 abbrev asked : tie.After-tested → Question
 asked c = let A = start c .args in question (A .network) (A .condition) (A .ask) (A .from .now) (A .to .now) (A .kinds .now) (lent-moves c)

@@ -1,6 +1,6 @@
 -- `tables::tests::bad_move` meets its contract: where it returns early, what refusal 5 asks of the move would be at odds with the test there; at the
 -- end only the to state is left of it.
-use Prim.Native.Nat.{_<_}
+use Prim.Native.Nat.{_+_, _*_, _<_}
 use mathlib.Core.Path.{_≡_}
 use mathlib.Core.Bool.{false}
 use mathlib.Core.Logic.{_↔_}
@@ -19,12 +19,15 @@ use Rattle.tables.proofs.tests.bad_move.Tie as tie
 abbrev Law : tie.Start → Type 0
 Law s =
     let a = s .args in
-    (badMoveAt (a .kinds) (conditionOf (a .condition) (movesOf (a .moves) (a .movefrom .now) (a .movekind .now) (a .moveto .now))) (a .j) ≡ false)
-    ↔ ((getD (a .movefrom .now) (a .j) 0 < a .condition .states) × (getD (a .movekind .now) (a .j) 0 < a .kinds) ×
-    (getD (a .moveto .now) (a .j) 0 < a .condition .states))
+    (badMoveAt (a .kinds) (conditionOf (a .condition) (movesOf (a .moves) (a .numbers .now))) (a .j) ≡ false)
+    ↔ ((getD (a .numbers .now) (3 * a .j) 0 < a .condition .states) × (getD (a .numbers .now) (3 * a .j + 1) 0 < a .kinds) ×
+    (getD (a .numbers .now) (3 * a .j + 2) 0 < a .condition .states))
 
 law : (s : tie.Start) → Law s
-law s = let a = s .args in move-law (a .condition) (a .moves) (a .movefrom .now) (a .movekind .now) (a .moveto .now) (a .kinds) (a .j) (s .pre .0)
+law s = let a = s .args in move-law (a .condition) (a .moves) (a .numbers .now) (a .kinds) (a .j) (s .pre .0)
+
+mul-at : tie.Need-mul-at
+mul-at c = search needs
 
 wide-requires : tie.Need-wide-requires
 wide-requires c κs = search needs
@@ -32,11 +35,17 @@ wide-requires c κs = search needs
 returns : tie.Need-returns
 returns c = is-given (λ e. let M = law (c .before .before .before .before) .0 e in omega arith)
 
+add-wide : tie.Need-add-wide
+add-wide c = search needs
+
 wide-requires-2 : tie.Need-wide-requires-2
 wide-requires-2 c κs = search needs
 
 returns-2 : tie.Need-returns-2
 returns-2 c = is-given (λ e. let M = law (c .before .before .before .before .before .before .before) .0 e in omega arith)
+
+add-wide-2 : tie.Need-add-wide-2
+add-wide-2 c = search needs
 
 wide-requires-3 : tie.Need-wide-requires-3
 wide-requires-3 c κs = search needs
@@ -50,4 +59,14 @@ returns-3 c =
 
 pub bad-move-spec : {M : Type 1} → statement M
 bad-move-spec =
-    tie.close (tie.spec wide-requires returns wide-requires-2 returns-2 wide-requires-3 returns-3)
+    tie.close
+    (tie.spec
+    mul-at
+    wide-requires
+    returns
+    add-wide
+    wide-requires-2
+    returns-2
+    add-wide-2
+    wide-requires-3
+    returns-3)

@@ -10,35 +10,35 @@ use Rattle.tables.proofs.tests.bad_states.Statement.{statement}
 use Rattle.tables.proofs.tests.bad_states.Tie as tie
 
 returns : tie.Need-returns
-returns c f k t =
+returns c numbers =
     let a = c .before .args in
-    is-given (λ e. let S = states-law (a .condition) (a .moves) f k t .0 e in omega arith)
+    is-given (λ e. let S = states-law (a .condition) (a .moves) numbers .0 e in omega arith)
 
 returns-2 : tie.Need-returns-2
-returns-2 c f k t =
+returns-2 c numbers =
     let a = c .before .before .args in
-    is-given (λ e. let S = states-law (a .condition) (a .moves) f k t .0 e in omega arith)
+    is-given (λ e. let S = states-law (a .condition) (a .moves) numbers .0 e in omega arith)
 
 returns-3 : tie.Need-returns-3
-returns-3 c f k t =
+returns-3 c numbers =
     let a = c .before .before .before .args in
-    is-given (λ e. let S = states-law (a .condition) (a .moves) f k t .0 e in omega arith)
+    is-given (λ e. let S = states-law (a .condition) (a .moves) numbers .0 e in omega arith)
 
 only-below-requires : tie.Need-only-below-requires
 only-below-requires c κs = search needs
 
 returns-4 : tie.Need-returns-4
-returns-4 c f k t =
+returns-4 c numbers =
     let a = c .before .before .before .before .before .args in
-    is-given (λ e. false≢true (sym (not-true _ (c .if4 .taken)) ∙ c .before .only-below .ensures ∙ states-law (a .condition) (a .moves) f k t .0 e .3))
+    is-given (λ e. false≢true (sym (not-true _ (c .if4 .taken)) ∙ c .before .only-below .ensures ∙ states-law (a .condition) (a .moves) numbers .0 e .3))
 
 only-below-requires-2 : tie.Need-only-below-requires-2
 only-below-requires-2 c κs = search needs
 
 returns-5 : tie.Need-returns-5
-returns-5 c f k t =
+returns-5 c numbers =
     let a = c .before .before .before .before .before .before .args in
-    let S = states-law (a .condition) (a .moves) f k t in
+    let S = states-law (a .condition) (a .moves) numbers in
     pass-together
     (λ h. S .1 (
       omega arith,

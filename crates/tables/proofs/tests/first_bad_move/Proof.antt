@@ -10,11 +10,11 @@ use Rattle.tables.proofs.tests.first_bad_move.Statement.{statement}
 use Rattle.tables.proofs.tests.first_bad_move.Tie as tie
 
 abbrev Inv-loop : tie.InvT-loop
-Inv-loop kinds condition moves movefrom movekind moveto j₀ j = (j ≤ moves) × NoneBefore
-    (badMoveAt kinds (conditionOf condition (movesOf moves movefrom movekind moveto))) j
+Inv-loop kinds condition moves numbers j₀ j = (j ≤ moves) × NoneBefore
+    (badMoveAt kinds (conditionOf condition (movesOf moves numbers))) j
 
 abbrev μ-loop : tie.MeasureT-loop
-μ-loop kinds condition moves movefrom movekind moveto j₀ j = moves - j
+μ-loop kinds condition moves numbers j₀ j = moves - j
 
 loop-holds : tie.Need-loop-holds Inv-loop μ-loop
 loop-holds c = (search needs, none-at-first _)

@@ -22,7 +22,7 @@ use Rattle.tables.proofs.tests.tested.Tie as tie
 abbrev asked : tie.Start → Question
 asked s =
     let a = s .args in
-    question (a .network) (a .condition) (a .ask) (a .from .now) (a .to .now) (a .kinds .now) (movesOf (a .moves) (a .movefrom .now) (a .movekind .now) (a .moveto .now))
+    question (a .network) (a .condition) (a .ask) (a .from .now) (a .to .now) (a .kinds .now) (movesOf (a .moves) (a .numbers .now))
 
 -- the answer is that of these rows
 abbrev From : tie.Start → (Question → List ℕ → List Row) → Type 0
@@ -64,7 +64,7 @@ from-4 c = none-answers _ _ _ _ _ (from-3 (c .before)) refl (c .before .before .
 
 states-said : (c : tie.After-bad-states) → badCondition (asked (s3 (c .before))) .given ≡ c .bad-states .result
 unfolding badCondition
-states-said c = let a = s3 (c .before) .args in sym (c .bad-states .ensures (a .movefrom .now) (a .movekind .now) (a .moveto .now))
+states-said c = let a = s3 (c .before) .args in sym (c .bad-states .ensures (a .numbers .now))
 
 from-5 : (c : tie.Else4) → From (s4 c) rows-5
 from-5 c = row-passes _ _ (from-4 (c .before .before)) (states-said (c .before) ∙ c .if4 .left)
@@ -83,7 +83,7 @@ sizes-in c = row-1 (asked (s1 c)) .passes .0 (sym (c .before .bad-sizes .ensures
 
 states-in : (c : tie.Else4) → (s4 c .args .condition .states ≤ ceilings .states) × (s4 c .args .moves ≤ ceilings .moves)
 states-in c =
-    let (_, b, m, _, _) = states-law (s4 c .args .condition) (s4 c .args .moves) [] [] [] .0 (sym (c .before .bad-states .ensures [] [] []) ∙ c .if4 .left) in
+    let (_, b, m, _, _) = states-law (s4 c .args .condition) (s4 c .args .moves) [] .0 (sym (c .before .bad-states .ensures []) ∙ c .if4 .left) in
     (b, m)
 
 bad-sizes-requires : tie.Need-bad-sizes-requires

@@ -1,4 +1,4 @@
--- `Rounds::start` meets its promise: where the tests refuse, their row answers; where they pass, the rows of the right area for 0 rounds are written
+-- `rounds::start` meets its promise: where the tests refuse, their row answers; where they pass, the rows of the right area for 0 rounds are written
 -- and their status is reported.
 use mathlib.Core.Path.{_≡_, sym, _∙_}
 use native.Mathlib.Omega.{arith}
@@ -13,8 +13,8 @@ use Rattle.rounds.proofs.Beginning.{begun}
 use Rattle.rounds.proofs.Lending.{accepted}
 use Rattle.rounds.proofs.Meeting.{start-refused, start-passed, in-front}
 use Rattle.rounds.proofs.Standing.{standing-is}
-use Rattle.rounds.proofs.Rounds.start.Statement.{statement}
-use Rattle.rounds.proofs.Rounds.start.Tie as tie
+use Rattle.rounds.proofs.start.Statement.{statement}
+use Rattle.rounds.proofs.start.Tie as tie
 
 -- where the function started, and what it is asked
 abbrev start : tie.After-tested → tie.Start
@@ -23,7 +23,7 @@ start c = c .before .before .before .before .before .before
 abbrev asked : tie.After-tested → Question
 asked c =
     let A = start c .args in
-    question (A .network) (A .condition) (A .ask) (A .from .now) (A .to .now) (A .kinds .now) (movesOf (A .moves) (A .movefrom .now) (A .movekind .now) (A .moveto .now))
+    question (A .network) (A .condition) (A .ask) (A .from .now) (A .to .now) (A .kinds .now) (movesOf (A .moves) (A .numbers .now))
 
 -- refusals 1 to 7 are passed
 passed : (c : tie.After-enum-told) → firstGiven (start-tests (asked (c .before .before)) (start (c .before .before) .args .area .now)) ≡ Passed

@@ -1,4 +1,4 @@
--- `Rounds::round` meets its promise: where the tests refuse, their row answers; where they pass, `turn` does the rest on the columns cut to the ties.
+-- `rounds::round` meets its promise: where the tests refuse, their row answers; where they pass, `turn` does the rest on the columns cut to the ties.
 use Prim.Native.Nat.{ℕ, _*_, _≤_, _<_}
 use mathlib.Core.Path.{_≡_, refl, sym, subst}
 use mathlib.Core.List.{List}
@@ -16,29 +16,29 @@ use Rattle.rounds.specs.Judged.{Lent, Judges, Every, IsRight, Turns}
 use Rattle.rounds.proofs.Lending.{accepted-right, lent, cut-all, of-cut, to-cut}
 use Rattle.rounds.proofs.Meeting.{round-refused, round-passed}
 use Rattle.rounds.proofs.Refusing.{every-list}
-use Rattle.rounds.proofs.Rounds.round.Statement.{statement}
-use Rattle.rounds.proofs.Rounds.round.Tie as tie
+use Rattle.rounds.proofs.round.Statement.{statement}
+use Rattle.rounds.proofs.round.Tie as tie
 
 -- where the function started, and what it is asked
 abbrev start : tie.After-tested → tie.Start
 start c = c .before .before .before .before .before .before .before .before
 
 abbrev lent-moves : tie.After-tested → List Move
-lent-moves c = let A = start c .args in movesOf (A .moves) (A .movefrom .now) (A .movekind .now) (A .moveto .now)
+lent-moves c = let A = start c .args in movesOf (A .moves) (A .numbers .now)
 
 abbrev asked : tie.After-tested → Question
 asked c = let A = start c .args in question (A .network) (A .condition) (A .ask) (A .from .now) (A .to .now) (A .kinds .now) (lent-moves c)
 
 -- the step table and its sources
 abbrev table : tie.After-tested → List ℕ
-table c = c .tested .last .1 .1 .1 .1 .1 .1 .1 .1 .1 .1 .1 .0
+table c = c .tested .last .1 .1 .1 .1 .1 .1 .1 .1 .1 .0
 
 abbrev sources : tie.After-tested → List ℕ
-sources c = c .tested .last .1 .1 .1 .1 .1 .1 .1 .1 .1 .1 .1 .1 .0
+sources c = c .tested .last .1 .1 .1 .1 .1 .1 .1 .1 .1 .1 .0
 
 -- what the tests left
 abbrev Left : tie.After-tested → Stand → Type 0
-Left c x = Judges (asked c) (start c .args .self .done) (start c .args .area .now) (table c) (sources c) x
+Left c x = Judges (asked c) (start c .args .done) (start c .args .area .now) (table c) (sources c) x
 
 passed : (c : tie.After-found) → Left (c .before .before) (At (c .found .given .0 .0))
 passed c = subst (λ (x : Stand). Left (c .before .before) x) (c .found .given .1) (c .before .before .tested .ensures)
@@ -91,13 +91,13 @@ turn-requires c κs =
     let A = start t .args in
     let (g, h) = columns f in
     let (a, room, few, _) = accepted-right _ _ _ (passed f .0) in
-    let (R, E) = every-list (A .network) (A .condition) (A .ask) (A .from .now) (A .to .now) (A .kinds .now) (lent-moves t) (A .self .done) (A .area .now)
+    let (R, E) = every-list (A .network) (A .condition) (A .ask) (A .from .now) (A .to .now) (A .kinds .now) (lent-moves t) (A .done) (A .area .now)
     (table t) (sources t) _ (passed f) in
     to-cut (cut-all (A .from .now) _ refl) (cut-all (A .to .now) _ g) (cut-all (A .kinds .now) _ h)
     (λ x y z. Lent (A .network) (A .condition) (length (A .from .now)) x y z (table t) (sources t) (A .area .now)
-    × (A .ask .to < A .network .marks) × (A .self .done ≤ A .network .marks * A .condition .states)
-    × IsRight (A .network) (A .condition) (A .ask) x y z (table t) (A .self .done) (A .area .now)
-    × Every (A .network) (A .condition) (A .ask) x y z (table t) (λ D. f .found .given .0 .0 ≡ status D (A .self .done)))
+    × (A .ask .to < A .network .marks) × (A .done ≤ A .network .marks * A .condition .states)
+    × IsRight (A .network) (A .condition) (A .ask) x y z (table t) (A .done) (A .area .now)
+    × Every (A .network) (A .condition) (A .ask) x y z (table t) (λ D. f .found .given .0 .0 ≡ status D (A .done)))
     (lent (A .network) (A .condition) (A .ask) (A .from .now) (A .to .now) (A .kinds .now) _ a _ _ _ (passed f .2) room, a .ends .1, few, R, E)
 
 same-length : tie.Need-same-length
@@ -121,7 +121,7 @@ returns-2 c =
     let (p, _, F) = passed f in
     round-passed _ _ _ _ _ p
     (of-cut (cut-all (A .from .now) _ refl) (cut-all (A .to .now) _ g) (cut-all (A .kinds .now) _ h)
-    (λ x y z. Turns (A .network) (A .condition) (A .ask) x y z (table t) (A .self .done) (A .area .now) (u .turn .result)
+    (λ x y z. Turns (A .network) (A .condition) (A .ask) x y z (table t) (A .done) (A .area .now) (u .turn .result)
     (u .turn .last .1 .1 .1 .1 .1 .1 .1 .1 .1 .1 .1 .0))
     (u .turn .ensures) (lent-moves t) (F .tabled) (accepted-right _ _ _ p .0))
 

@@ -1,0 +1,27 @@
+use mathlib.Core.Path.{_∙_}
+use borrow.Author.Needs.{needs}
+use Rattle.desk.proofs.gathered.round.Statement.{statement}
+use Rattle.desk.proofs.gathered.round.Tie as tie
+use Rattle.desk.proofs.gathered.round.Reads as reads
+use Rattle.desk.proofs.gathered.round.Lts as lts
+use Rattle.desk.proofs.gathered.prepared.Reads as prepared-reads
+use Rattle.rounds.proofs.round.Reads as round-reads
+
+-- src/gathered.rt:79:14
+round-requires : tie.Need-round-requires
+round-requires c κs = search needs
+
+-- src/gathered.rt:79:5
+prepared-requires : tie.Need-prepared-requires
+prepared-requires c κs = search needs
+
+-- src/gathered.rt:59:1
+same-length : tie.Need-same-length
+same-length c = search needs
+
+-- src/gathered.rt:59:1
+returns : tie.Need-returns
+returns c = let m = c .before .before .before .round .ensures in record { answers = c .prepared .ensures ∙ m .answers; leaves = m .leaves }
+
+pub round-spec : {M : Type 1} → statement M
+round-spec = tie.close (tie.spec round-requires prepared-requires same-length returns)
