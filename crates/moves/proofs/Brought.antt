@@ -24,8 +24,9 @@ use Rattle.walk.specs.Answers.{conditionOf, question}
 use Rattle.walk.proofs.Numbers.{length-table, table-ext}
 use Rattle.walk.proofs.TooManyMoves.{TooMany, start-alike, round-alike, first-alike, next-alike}
 use Rattle.tables.specs.Lent.{moveOf, movesOf}
-use Rattle.moves.specs.Gathering.{none, room, blank, put, filled, gathered}
+use Rattle.moves.specs.Gathering.{none, blank, put, filled, gathered}
 use Rattle.moves.specs.declared.Gathered.{Gathered}
+use Rattle.moves.proofs.Most.{most-all}
 
 -- ---- one move written
 length-put : (w : List ℕ) (j : ℕ) (m : Move) → length (put w j m) ≡ length w
@@ -87,13 +88,6 @@ stands (suc j) ms i l b = go (ltb i j) refl (λ h. stands j ms i h (omega arith)
         let same : j ≡ i = omega arith in
         subst (λ (k : ℕ). moveOf (filled (suc j) ms) k ≡ getD ms k none) same (put-own (filled j ms) j (getD ms j none) (omega (arith, length-filled j ms)))
 
-room-for-all : (n : ℕ) → n ≤ ceilings .moves → room n ≡ n
-room-for-all n l = go (ltb n (ceilings .moves)) refl
-  where
-    go : (t : Bool) → ltb n (ceilings .moves) ≡ t → cond t n (ceilings .moves) ≡ n
-    go true e = refl
-    go false e = let h = ltb-false n (ceilings .moves) e in omega arith
-
 all-of : (ms : List Move) → table (length ms) (λ i. getD ms i none) ≡ ms
 unfolding table
 all-of [] = refl
@@ -105,7 +99,7 @@ listOf g = movesOf (g .count) (g .numbers)
 
 pub brought : (ms : List Move) → length ms ≤ ceilings .moves → listOf (gathered ms) ≡ ms
 brought ms l =
-    ap (λ (k : ℕ). movesOf (length ms) (filled k ms)) (room-for-all (length ms) l)
+    ap (λ (k : ℕ). movesOf (length ms) (filled k ms)) (most-all (length ms) (ceilings .moves) l)
     ∙ table-ext (length ms) (moveOf (filled (length ms) ms)) (λ i. getD ms i none) (λ i h. stands (length ms) ms i h l) ∙ all-of ms
 
 module _ (n : network.Network) (c : condition.Condition) (a : Ask) (froms tos sets : List ℕ) (ms : List Move) where

@@ -12,9 +12,9 @@ use Rattle.moves.specs.declared.Gathered.{Gathered}
 abbrev pub none : Move
 none = record { from = 0; kind = 0; to = 0 }
 
--- how many of n moves there is room for
-abbrev pub room : ℕ → ℕ
-room n = cond (ltb n (ceilings .moves)) n (ceilings .moves)
+-- the smaller of two numbers
+abbrev pub atMost : ℕ → ℕ → ℕ
+atMost n most = cond (ltb n most) n most
 
 -- the array with the numbers of move j written
 abbrev pub put : List ℕ → ℕ → Move → List ℕ
@@ -29,4 +29,4 @@ filled zero ms = blank
 filled (suc j) ms = put (filled j ms) j (getD ms j none)
 
 abbrev pub gathered : List Move → Gathered
-gathered ms = record { count = length ms; numbers = filled (room (length ms)) ms }
+gathered ms = record { count = length ms; numbers = filled (atMost (length ms) (ceilings .moves)) ms }

@@ -3,7 +3,7 @@
 ghost use mathlib.Core.Path.{_≡_};
 ghost use Prim.Native.Nat.{_<_};
 ghost use Rattle.walk.specs.Ceilings.{ceilings};
-ghost use Rattle.moves.specs.Gathering.{room, blank, put, gathered};
+ghost use Rattle.moves.specs.Gathering.{atMost, blank, put, gathered};
 use walk::Condition;
 use walk::Move;
 
@@ -14,15 +14,11 @@ pub struct Gathered {
     pub numbers: [u16; Condition::NUMBERS],
 }
 
-// How many of so many moves there is room for.
-fn room(count: usize) -> usize
-    ensures { λ r. ⌜ r ≡ room count ⌝ }
+// The smaller of two numbers.
+pub fn at_most(n: usize, most: usize) -> usize
+    ensures { λ r. ⌜ r ≡ atMost n most ⌝ }
 {
-    if count < Condition::MOVES {
-        count
-    } else {
-        Condition::MOVES
-    }
+    if n < most { n } else { most }
 }
 
 fn blank() -> [u16; Condition::NUMBERS]
@@ -55,7 +51,7 @@ pub fn gather(moves: &[Move]) -> Gathered
     ensures { λ r. ⌜ r ≡ gathered (now (moves .entry)) ⌝ }
 {
     let mut numbers = blank();
-    let n = room(moves.len());
+    let n = at_most(moves.len(), Condition::MOVES);
     let mut j = 0;
     while j < n {
         let m = moves[j];

@@ -1,5 +1,5 @@
 -- `moves::gather` meets its contract: a walk of its MIR, by hand, with its loop. A turn reads one record, whole, and hands its three numbers to `put`, to which the array is lent for a lifetime that is made for the call.
--- The loop's invariant: the numbers of the first j moves are written. All that the proof knows of `blank`, `room`, `put` and `counted` is that each meets its contract.
+-- The loop's invariant: the numbers of the first j moves are written. All that the proof knows of `blank`, `at_most`, `put` and `counted` is that each meets its contract.
 -- Assumes nothing.
 use mathlib.Core.Path.{_≡_, refl, sym, _∙_, ap, subst}
 use Prim.Native.Nat.{ℕ, suc, _+_, _*_, _-_, _<_, _≤_, _^_, zero-le}
@@ -56,18 +56,19 @@ use denote.Triple.Clauses.{ensured, lasts, Lasts}
 use Rattle.walk.specs.declared.Move.{Move}
 use Rattle.walk.proofs.Move as T
 use Rattle.walk.proofs.Move.Laws as T′
-use Rattle.moves.specs.Gathering.{none, room as roomFor, blank as blankOf, put as putOf, filled, gathered}
+use Rattle.moves.specs.Gathering.{none, atMost, blank as blankOf, put as putOf, filled, gathered}
 use Rattle.moves.specs.declared.Gathered.{Gathered}
 use Rattle.moves.proofs.Gathered as G
 use Rattle.moves.proofs.Gathered.Laws as G′
 use Rattle.moves.proofs.Loans.{Words, words, value, to-lend, come-back}
+use Rattle.moves.proofs.Most.{most-within}
 use Rattle.moves.proofs.While.{tests}
 use Rattle.moves.proofs.blank as blank
 use Rattle.moves.proofs.blank.Symbol as blank-def
 use Rattle.moves.proofs.blank.Met as blank-thm
-use Rattle.moves.proofs.room as room
-use Rattle.moves.proofs.room.Symbol as room-def
-use Rattle.moves.proofs.room.Met as room-thm
+use Rattle.moves.proofs.at_most as at-most
+use Rattle.moves.proofs.at_most.Symbol as at-most-def
+use Rattle.moves.proofs.at_most.Met as at-most-thm
 use Rattle.moves.proofs.put as put
 use Rattle.moves.proofs.put.Symbol as put-def
 use Rattle.moves.proofs.put.Met as put-thm
@@ -85,13 +86,9 @@ abbrev firstOf : List Val → Val
 firstOf [] = vunit
 firstOf (v ∷ vs) = v
 
--- there is room for no more than are lent, and for no more than the ceiling
-room-by : (n : ℕ) (t : Bool) → ltb n 256 ≡ t → (cond t n 256 ≤ n) × (cond t n 256 ≤ 256)
-room-by n true e = let l = ltb-true n 256 e in (le-refl n, omega arith)
-room-by n false e = (ltb-false n 256 e, le-refl 256)
-
-room-within : (n : ℕ) → (roomFor n ≤ n) × (roomFor n ≤ 256)
-room-within n = room-by n (ltb n 256) refl
+-- how many turns the loop makes over n moves
+abbrev turnsOf : ℕ → ℕ
+turnsOf n = atMost n 256
 
 -- one move more is written
 step-on : (w : List ℕ) (ys : List Move) (j : ℕ) → w ≡ filled j ys → putOf w j (getD ys j none) ≡ filled (j + 1) ys
@@ -112,7 +109,7 @@ held n w = record { count = n; numbers = w }
 -- where a turn begins
 record Turn (ys : List Move) : Type 0 where
   pub j : ℕ
-  pub within : j ≤ roomFor (length ys)
+  pub within : j ≤ turnsOf (length ys)
   pub w : List ℕ
   pub is : Is (Words 768) w (value 768 w ∷ [])
   pub so-far : w ≡ filled j ys
@@ -137,8 +134,8 @@ module _ {M : Type 1} (𝓤 : URA M) (H : Heap 𝓤) (A : Atoms 𝓤) (mem : Mem
   abbrev Blank : Contract 𝓤
   Blank = tripleOf 𝓤 H A blank.signature (blank.spec 𝓤 H A mem run)
 
-  abbrev Fit : Contract 𝓤
-  Fit = tripleOf 𝓤 H A room.signature (room.spec 𝓤 H A mem run)
+  abbrev AtMost : Contract 𝓤
+  AtMost = tripleOf 𝓤 H A at-most.signature (at-most.spec 𝓤 H A mem run)
 
   abbrev Put : Contract 𝓤
   Put = tripleOf 𝓤 H A put.signature (put.spec 𝓤 H A mem run)
@@ -149,8 +146,8 @@ module _ {M : Type 1} (𝓤 : URA M) (H : Heap 𝓤) (A : Atoms 𝓤) (mem : Mem
   blank-said : (r : List ℕ) → ent 𝓤 (ensured 𝓤 H A blank.ended (blank.clauses 𝓤 H A mem run) tt tt tt r) (fact 𝓤 (r ≡ blankOf))
   blank-said r = exE 𝓤 _ (λ ws. snd∗ 𝓤 (sem 𝓤 H A (lasts blank.ended tt tt ws)) (fact 𝓤 (r ≡ blankOf)))
 
-  room-said : (n r : ℕ) → ent 𝓤 (ensured 𝓤 H A room.ended (room.clauses 𝓤 H A mem run) tt (n, tt) tt r) (fact 𝓤 (r ≡ roomFor n))
-  room-said n r = exE 𝓤 _ (λ ws. snd∗ 𝓤 (sem 𝓤 H A (lasts room.ended tt (n, tt) ws)) (fact 𝓤 (r ≡ roomFor n)))
+  at-most-said : (n r : ℕ) → ent 𝓤 (ensured 𝓤 H A at-most.ended (at-most.clauses 𝓤 H A mem run) tt (n, (256, tt)) tt r) (fact 𝓤 (r ≡ turnsOf n))
+  at-most-said n r = exE 𝓤 _ (λ ws. snd∗ 𝓤 (sem 𝓤 H A (lasts at-most.ended tt (n, (256, tt)) ws)) (fact 𝓤 (r ≡ turnsOf n)))
 
   counted-said : (n : ℕ) (w : List ℕ) (r : Gathered) → ent 𝓤 (ensured 𝓤 H A counted.ended (counted.clauses 𝓤 H A mem run) tt (n, (w, tt)) tt r) (fact 𝓤 (r ≡ held n w))
   counted-said n w r = exE 𝓤 _ (λ ws. snd∗ 𝓤 (sem 𝓤 H A (lasts counted.ended tt (n, (w, tt)) ws)) (fact 𝓤 (r ≡ held n w)))
@@ -191,11 +188,11 @@ module _ {M : Type 1} (𝓤 : URA M) (H : Heap 𝓤) (A : Atoms 𝓤) (W : Given
   goes-blank : ent 𝓤 (emp 𝓤) (Blank 𝓤 H A mem run .pre to-blank)
   goes-blank = qed W [] ∵ nothing ! $ nothing ! $ join ! $ frame ! $ done !
 
-  abbrev to-room : Fit 𝓤 H A mem run .Ghost
-  to-room = ((tt, tt, tt, (n, tt), (vint w64 n ∷ [], tt)), tt)
+  abbrev to-at-most : AtMost 𝓤 H A mem run .Ghost
+  to-at-most = ((tt, tt, tt, (n, (256, tt)), (vint w64 n ∷ [], (vint w64 256 ∷ [], tt))), tt)
 
-  goes-room : n < 2 ^ 64 → ent 𝓤 (emp 𝓤) (Fit 𝓤 H A mem run .pre to-room)
-  goes-room l = qed W [] ∵ nothing ! $ owned ! usize (Is usize) (uint-makes 𝓤 H A W w64) n _ (refl, l) $ fjoin ! $ nothing ! $ join ! $ frame ! $ done !
+  goes-at-most : n < 2 ^ 64 → ent 𝓤 (emp 𝓤) (AtMost 𝓤 H A mem run .pre to-at-most)
+  goes-at-most l = qed W [] ∵ nothing ! $ owned ! usize (Is usize) (uint-makes 𝓤 H A W w64) 256 _ (refl, lit< tt) $ fjoin ! $ owned ! usize (Is usize) (uint-makes 𝓤 H A W w64) n _ (refl, l) $ fjoin ! $ nothing ! $ join ! $ frame ! $ done !
 
   abbrev to-counted : List ℕ → Counted 𝓤 H A mem run .Ghost
   to-counted w = ((tt, tt, tt, (n, (w, tt)), (vint w64 n ∷ [], (value 768 w ∷ [], tt))), tt)
@@ -226,10 +223,10 @@ module _ {M : Type 1} (𝓤 : URA M) (H : Heap 𝓤) (A : Atoms 𝓤) (W : Given
         move ! (2 ∷ 0 ∷ []) $ fjoin ! $ nothing ! $ move ! (2 ∷ 0 ∷ []) $ join ! $ done !
 
   abbrev Nearer : Turn ys → Turn ys → Type 0
-  Nearer x y = roomFor n - x .j < roomFor n - y .j
+  Nearer x y = turnsOf n - x .j < turnsOf n - y .j
 
   Nearer-wf : WellFounded Nearer
-  Nearer-wf = InvImage·wf (λ (x : Turn ys). roomFor n - x .j) (Nat·lt-wfRel .wf)
+  Nearer-wf = InvImage·wf (λ (x : Turn ys). turnsOf n - x .j) (Nat·lt-wfRel .wf)
 
   module _ (𝓣 : Tables 𝓤 H) (fm : FmC 𝓤 H (W .laws) (𝓣 .C)) (known-put : Triple 𝓤 (𝓣 .C put-def.name) (Put 𝓤 H A mem run)) (known-counted : Triple 𝓤 (𝓣 .C counted-def.name) (Counted 𝓤 H A mem run)) (gn : Room T.the-row n) (l₀ l₁ l₂ l₃ l₄ l₅ l₆ l₇ l₈ l₉ l₁₀ l₁₁ l₁₂ l₁₃ : ℕ) where
     abbrev C : Calls 𝓤 H
@@ -245,7 +242,7 @@ module _ {M : Type 1} (𝓤 : URA M) (H : Heap 𝓤) (A : Atoms 𝓤) (W : Given
     abbrev At : Turn ys → List (Item 𝓤)
     At x = ‵ (froom lent l₁₃ 0) ∷ ‵ (fdies lent l₁₃) ∷ ‵ (froom tyUnit l₁₂ 0) ∷ ‵ (fdies tyUnit l₁₂) ∷ ‵ (froom T′.mir l₁₁ 0) ∷ ‵ (fdies T′.mir l₁₁) ∷ ‵ (froom tyPtr l₁₀ 0) ∷ ‵ (fdies tyPtr l₁₀) ∷ ‵ (froom word l₉ 0) ∷ ‵ (fdies word l₉)
         ∷ ‵ (froom tyBool l₈ 0) ∷ ‵ (fdies tyBool l₈) ∷ ‵ (froom word l₇ 0) ∷ ‵ (fdies word l₇) ∷ ‵ (froom numbers l₆ 0) ∷ ‵ (fdies numbers l₆) ∷ ‵ (froom T′.mir l₅ 0) ∷ ‵ (fdies T′.mir l₅)
-        ∷ ‵ (fat fullShare word l₄ 0 (vint w64 (x .j))) ∷ ‵ (fdies word l₄) ∷ ‵ (fat fullShare word l₃ 0 (vint w64 (roomFor n))) ∷ ‵ (fdies word l₃) ∷ ‵ (fat fullShare numbers l₂ 0 (value 768 (x .w))) ∷ ‵ (fdies numbers l₂)
+        ∷ ‵ (fat fullShare word l₄ 0 (vint w64 (x .j))) ∷ ‵ (fdies word l₄) ∷ ‵ (fat fullShare word l₃ 0 (vint w64 (turnsOf n))) ∷ ‵ (fdies word l₃) ∷ ‵ (fat fullShare numbers l₂ 0 (value 768 (x .w))) ∷ ‵ (fdies numbers l₂)
         ∷ ‵ (fat fullShare slice l₁ 0 v) ∷ ‵ (fdies slice l₁) ∷ ‵ (froom G′.mir l₀ 0) ∷ ‵ (fdies G′.mir l₀) ∷ Lent
 
     abbrev rest : Body
@@ -290,7 +287,7 @@ module _ {M : Type 1} (𝓤 : URA M) (H : Heap 𝓤) (A : Atoms 𝓤) (W : Given
         assigns-last ! (bin ! (load ! (from ! (stop !)) (look ! 21 refl)) (lit ! tt) (record { fits = next-fits less })) (from ! (stop !)) (store ! 21 refl (tt, record { fits = next-fits less })) $
         forget ! 3 refl $ forget ! 5 refl $ forget ! 7 refl $ forget ! 9 refl $ forget ! 11 refl $ forget ! 13 refl $ forget ! 19 refl $
         keep ! (3 ∷ 4 ∷ 5 ∷ 6 ∷ 7 ∷ 8 ∷ 9 ∷ 10 ∷ 11 ∷ 12 ∷ 13 ∷ 14 ∷ 15 ∷ 16 ∷ 17 ∷ 18 ∷ 19 ∷ 20 ∷ 21 ∷ 22 ∷ 23 ∷ 24 ∷ 0 ∷ 25 ∷ 26 ∷ 27 ∷ 28 ∷ 29 ∷ 1 ∷ 2 ∷ 30 ∷ 31 ∷ []) $
-        again ! Nearer At x (next less (zs .0) is e) (add-one-dec (roomFor n) (x .j) (is-less less)))))))))))))
+        again ! Nearer At x (next less (zs .0) is e) (add-one-dec (turnsOf n) (x .j) (is-less less)))))))))))))
         (λ over. exec ! C Λ En rest (atRet En Post) $
         assigns ! (of-opd ! (load ! (from ! (fld ! refl (stop !))) (look-in ! 24 (sub ! 1 refl (whole !))))) (from ! (stop !)) (init ! 12 refl (tt, record { fits = gn .0 })) $
         assigns ! (of-opd ! (load ! (from ! (stop !)) (look ! 22 refl))) (from ! (stop !)) (init ! 14 refl (typed (x .w) _ (x .is))) $
@@ -310,38 +307,38 @@ module _ {M : Type 1} (𝓤 : URA M) (H : Heap 𝓤) (A : Atoms 𝓤) (W : Given
         m : Move
         m = getD ys (x .j) none
 
-        is-less : Holds (ltb (x .j) (roomFor n)) → x .j < roomFor n
-        is-less less = ltb→lt (x .j) (roomFor n) less
+        is-less : Holds (ltb (x .j) (turnsOf n)) → x .j < turnsOf n
+        is-less less = ltb→lt (x .j) (turnsOf n) less
 
-        in-list : Holds (ltb (x .j) (roomFor n)) → x .j < n
-        in-list less = omega (arith, is-less less, room-within n .0)
+        in-list : Holds (ltb (x .j) (turnsOf n)) → x .j < n
+        in-list less = omega (arith, is-less less, most-within n 256 .0)
 
-        small : Holds (ltb (x .j) (roomFor n)) → x .j < 256
-        small less = omega (arith, is-less less, room-within n .1)
+        small : Holds (ltb (x .j) (turnsOf n)) → x .j < 256
+        small less = omega (arith, is-less less, most-within n 256 .1)
 
-        at-end : Holds (not (ltb (x .j) (roomFor n))) → x .j ≡ roomFor n
-        at-end over = omega (arith, nltb→le (x .j) (roomFor n) over, x .within)
+        at-end : Holds (not (ltb (x .j) (turnsOf n))) → x .j ≡ turnsOf n
+        at-end over = omega (arith, nltb→le (x .j) (turnsOf n) over, x .within)
 
-        j-fits : Holds (ltb (x .j) (roomFor n)) → x .j < 2 ^ 64
+        j-fits : Holds (ltb (x .j) (turnsOf n)) → x .j < 2 ^ 64
         j-fits less = omega (arith, small less)
 
-        next-fits : Holds (ltb (x .j) (roomFor n)) → x .j + 1 < 2 ^ 64
+        next-fits : Holds (ltb (x .j) (turnsOf n)) → x .j + 1 < 2 ^ 64
         next-fits less = omega (arith, small less)
 
-        next : Holds (ltb (x .j) (roomFor n)) → (w : List ℕ) → Is (Words 768) w (value 768 w ∷ []) → w ≡ putOf (x .w) (x .j) m → Turn ys
+        next : Holds (ltb (x .j) (turnsOf n)) → (w : List ℕ) → Is (Words 768) w (value 768 w ∷ []) → w ≡ putOf (x .w) (x .j) m → Turn ys
         next less w is e = record { j = x .j + 1; within = add-one-le (is-less less); w = w; is = is; so-far = e ∙ step-on (x .w) ys (x .j) (x .so-far) }
 
-        size-fits : Holds (ltb (x .j) (roomFor n)) → x .j * 6 < 2 ^ 64
+        size-fits : Holds (ltb (x .j) (turnsOf n)) → x .j * 6 < 2 ^ 64
         size-fits less = omega (arith, gn .1, in-list less)
 
     -- the loop, and what comes after it
     loops-on : (x : Turn ys) → Sq W (At x) (runs C Λ En code-mir.t-6 (atRet En Post))
     loops-on x = first ! $ blocks ! $ loops ! 𝓣 Nearer Nearer-wf At turns x
 
-  walk : (𝓣 : Tables 𝓤 H) → FmC 𝓤 H (W .laws) (𝓣 .C) → Triple 𝓤 (𝓣 .C blank-def.name) (Blank 𝓤 H A mem run) → Triple 𝓤 (𝓣 .C room-def.name) (Fit 𝓤 H A mem run)
+  walk : (𝓣 : Tables 𝓤 H) → FmC 𝓤 H (W .laws) (𝓣 .C) → Triple 𝓤 (𝓣 .C blank-def.name) (Blank 𝓤 H A mem run) → Triple 𝓤 (𝓣 .C at-most-def.name) (AtMost 𝓤 H A mem run)
       → Triple 𝓤 (𝓣 .C put-def.name) (Put 𝓤 H A mem run) → Triple 𝓤 (𝓣 .C counted-def.name) (Counted 𝓤 H A mem run) → Room T.the-row n
       → ent 𝓤 (onEntry 𝓤 H A gather.signature (κ, tt) (q, tt) (s, tt) (v ∷ [], tt)) (WpFn 𝓤 H (𝓣 .C) (𝓣 .Λ) code.function (v ∷ []) Post)
-  walk 𝓣 fm known-blank known-room known-put known-counted gn =
+  walk 𝓣 fm known-blank known-at-most known-put known-counted gn =
       qed W ((‵ (flft κ q) ⊛ ‵ ftrue) ∷ ‵ (owns (ShrSlice (named 0) κ T.the-row ∷ []) (s, tt) (v ∷ [], tt)) ∷ []) ∵ enter ! (𝓣 .C) (𝓣 .Λ) code.function (v ∷ []) _ $
       alloc1 ! (λ l₀. alloc1 ! (λ l₁. alloc1 ! (λ l₂. alloc1 ! (λ l₃. alloc1 ! (λ l₄. alloc1 ! (λ l₅. alloc1 ! (λ l₆. alloc1 ! (λ l₇. alloc1 ! (λ l₈. alloc1 ! (λ l₉. alloc1 ! (λ l₁₀. alloc1 ! (λ l₁₁. alloc1 ! (λ l₁₂. alloc1 ! (λ l₁₃. alloc0 ! $ params1 ! $
       pass1 ! (init ! 24 refl (tt, (tt, (record { fits = gn .0 }, tt)))) $ pass0 ! $
@@ -355,10 +352,10 @@ module _ {M : Type 1} (𝓤 : URA M) (H : Heap 𝓤) (A : Atoms 𝓤) (W : Given
       assigns ! (of-opd ! (load ! (from ! (stop !)) (look ! 14 refl))) (from ! (stop !)) (init ! 22 refl (typed w u is)) $
       rewrite ! 22 (λ (vs : List Val). ‵ (fat fullShare numbers l₂ 0 (firstOf vs))) (told w u is) refl $
       assigns ! (of-opd ! (load ! (from ! (fld ! refl (stop !))) (look-in ! 24 (sub ! 1 refl (whole !))))) (from ! (stop !)) (init ! 12 refl (tt, record { fits = gn .0 })) $
-      use0 W (raw (Fit 𝓤 H A mem run .pre to-room)) (goes-room (gn .0)) $
-      calls-at ! fm (Fit 𝓤 H A mem run) known-room to-room (and-then ! (load ! (from ! (stop !)) (look ! 13 refl)) (no-more !)) (λ u′.
-      use1 W (later (some (λ (r : ℕ). (‵ ftrue ⊛ ‵ (usize .own r (u′ ∷ []))) ⊛ raw (ensured 𝓤 H A room.ended (room.clauses 𝓤 H A mem run) tt (n, tt) tt r)))) (id⊢ 𝓤 _) $ await ! tt $ pick ! (λ r.
-      split ! $ move ! (1 ∷ []) $ use1 W (raw (fact 𝓤 (r ≡ roomFor n))) (room-said 𝓤 H A mem run n r) $ heard ! (r ≡ roomFor n) (λ er. split ! $ drop ! $
+      use0 W (raw (AtMost 𝓤 H A mem run .pre to-at-most)) (goes-at-most (gn .0)) $
+      calls-at ! fm (AtMost 𝓤 H A mem run) known-at-most to-at-most (and-then ! (load ! (from ! (stop !)) (look ! 13 refl)) (and-then ! (lit ! tt) (no-more !))) (λ u′.
+      use1 W (later (some (λ (r : ℕ). (‵ ftrue ⊛ ‵ (usize .own r (u′ ∷ []))) ⊛ raw (ensured 𝓤 H A at-most.ended (at-most.clauses 𝓤 H A mem run) tt (n, (256, tt)) tt r)))) (id⊢ 𝓤 _) $ await ! tt $ pick ! (λ r.
+      split ! $ move ! (1 ∷ []) $ use1 W (raw (fact 𝓤 (r ≡ turnsOf n))) (at-most-said 𝓤 H A mem run n r) $ heard ! (r ≡ turnsOf n) (λ er. split ! $ drop ! $
       facts ! usize (Is usize) (shows 𝓤 H A usize) r (u′ ∷ []) (λ isr.
       land ! (from ! (stop !)) (init ! 20 refl (uint-lawful 𝓤 H A W w64 .typed r _ isr .0)) $
       rewrite ! 20 (λ (vs : List Val). ‵ (fat fullShare word l₃ 0 (firstOf vs))) (isr .0 ∙ ap (λ (k : ℕ). vint w64 k ∷ []) er) refl $
@@ -369,10 +366,10 @@ module _ {M : Type 1} (𝓤 : URA M) (H : Heap 𝓤) (A : Atoms 𝓤) (W : Given
       loops-on 𝓣 fm known-put known-counted gn l₀ l₁ l₂ l₃ l₄ l₅ l₆ l₇ l₈ l₉ l₁₀ l₁₁ l₁₂ l₁₃
       (record { j = 0; within = zero-le; w = w; is = subst (Is (Words 768) w) (told w u is) is; so-far = e ∙ none-written ys })))))))))))))))))))))))
 
-module _ {M : Type 1} (𝓤 : URA M) (H : Heap 𝓤) (A : Atoms 𝓤) (W : Given 𝓤 H A) (mem : Memory → SProp 𝓤) (run : Routine → Fun 𝓤) (𝓣 : Tables 𝓤 H) (known-blank : Triple 𝓤 (𝓣 .C blank-def.name) (Blank 𝓤 H A mem run)) (known-room : Triple 𝓤 (𝓣 .C room-def.name) (Fit 𝓤 H A mem run)) (known-put : Triple 𝓤 (𝓣 .C put-def.name) (Put 𝓤 H A mem run)) (known-counted : Triple 𝓤 (𝓣 .C counted-def.name) (Counted 𝓤 H A mem run)) where
+module _ {M : Type 1} (𝓤 : URA M) (H : Heap 𝓤) (A : Atoms 𝓤) (W : Given 𝓤 H A) (mem : Memory → SProp 𝓤) (run : Routine → Fun 𝓤) (𝓣 : Tables 𝓤 H) (known-blank : Triple 𝓤 (𝓣 .C blank-def.name) (Blank 𝓤 H A mem run)) (known-at-most : Triple 𝓤 (𝓣 .C at-most-def.name) (AtMost 𝓤 H A mem run)) (known-put : Triple 𝓤 (𝓣 .C put-def.name) (Put 𝓤 H A mem run)) (known-counted : Triple 𝓤 (𝓣 .C counted-def.name) (Counted 𝓤 H A mem run)) where
   gather-walks : Walks 𝓤 H A gather.ended stayed (WpFn 𝓤 H (𝓣 .C) (𝓣 .Λ) code.function) (gather.clauses 𝓤 H A mem run)
   gather-walks = walked 𝓤 H A gather.ended stayed (gather.clauses 𝓤 H A mem run) (WpFn 𝓤 H (𝓣 .C) (𝓣 .Λ) code.function) (λ κs. (slice-vals, tt)) (λ κs. (shr-slice-tells (named 0) (κs .0) T.the-row, tt))
-      (λ κs qs bounds a g are. via 𝓤 _ (fst∗ 𝓤 _ (emp 𝓤)) (walk 𝓤 H A W mem run (κs .0) (qs .0) (a .0 .ptr .0) (a .0 .ptr .1) (a .0 .name) (a .0 .now) 𝓣 (fmOf 𝓤 H (W .laws) 𝓣) known-blank known-room known-put known-counted (are .0 .0 .1)))
+      (λ κs qs bounds a g are. via 𝓤 _ (fst∗ 𝓤 _ (emp 𝓤)) (walk 𝓤 H A W mem run (κs .0) (qs .0) (a .0 .ptr .0) (a .0 .ptr .1) (a .0 .name) (a .0 .now) 𝓣 (fmOf 𝓤 H (W .laws) 𝓣) known-blank known-at-most known-put known-counted (are .0 .0 .1)))
 
   gather-meets : Meets 𝓤 H A gather.signature (WpFn 𝓤 H (𝓣 .C) (𝓣 .Λ) code.function) (gather.spec 𝓤 H A mem run)
   gather-meets = walk-meets 𝓤 H A gather.ended stayed W (goes-none-slice 𝓤 H A W 1 (0 ∷ []) tt (plain (λ _. T.the-row)) yes, tt) (gather.clauses 𝓤 H A mem run) (WpFn 𝓤 H (𝓣 .C) (𝓣 .Λ) code.function) (WpFn-mono 𝓤 H (W .laws) 𝓣 code.function) gather-walks
@@ -384,6 +381,6 @@ gather-spec 𝓤 H 𝓜 𝓖 𝓡 =
     (tables 𝓤 H 𝓜 𝓡 code.env .C) (tables 𝓤 H 𝓜 𝓡 code.env .Λ) #moves·gather code.function (code.unfolded 𝓤 H 𝓜 𝓡)
     (gather-meets 𝓤 H (𝓖 .A) (givenOf 𝓤 H 𝓜 𝓖) (𝓜 .mem) (𝓡 .run) (tablesOf 𝓤 H 𝓜 (tables 𝓤 H 𝓜 𝓡 code.env))
     (cited 𝓤 H (Blank 𝓤 H (𝓖 .A) (𝓜 .mem) (𝓡 .run)) 𝓜 𝓡 code.env blank-def.name blank-def.routine code.calls-moves·blank (blank-thm.met 𝓤 H 𝓜 𝓖 𝓡))
-    (cited 𝓤 H (Fit 𝓤 H (𝓖 .A) (𝓜 .mem) (𝓡 .run)) 𝓜 𝓡 code.env room-def.name room-def.routine code.calls-moves·room (room-thm.met 𝓤 H 𝓜 𝓖 𝓡))
+    (cited 𝓤 H (AtMost 𝓤 H (𝓖 .A) (𝓜 .mem) (𝓡 .run)) 𝓜 𝓡 code.env at-most-def.name at-most-def.routine code.calls-moves·at-most (at-most-thm.met 𝓤 H 𝓜 𝓖 𝓡))
     (cited 𝓤 H (Put 𝓤 H (𝓖 .A) (𝓜 .mem) (𝓡 .run)) 𝓜 𝓡 code.env put-def.name put-def.routine code.calls-moves·put (put-thm.met 𝓤 H 𝓜 𝓖 𝓡))
     (cited 𝓤 H (Counted 𝓤 H (𝓖 .A) (𝓜 .mem) (𝓡 .run)) 𝓜 𝓡 code.env counted-def.name counted-def.routine code.calls-moves·counted (counted-thm.met 𝓤 H 𝓜 𝓖 𝓡)))
