@@ -3,6 +3,8 @@
 // to covered code, which calls the inner crates.
 
 mod gathered;
+pub mod held;
+mod lent;
 
 ghost use Rattle.walk.specs.Calls.{start, round, first, next};
 ghost use Rattle.walk.specs.Answers.{question, saidFirst, saidNext, Meets};

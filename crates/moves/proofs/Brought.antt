@@ -1,28 +1,20 @@
--- What is gathered of a list of moves says the list: with as many as the ceiling or fewer, each of them; with more, how many, and then every call is
--- refused the same way, whatever the moves are (`TooManyMoves` of `walk`). So a call on what is gathered is the call on the list.
--- Writing the numbers of move j leaves those of the moves before it, so by induction the first j moves stand in the array.
+-- What is gathered of a list of moves stands for the list: with as many as the ceiling or fewer it says each of them; with more, how many, and that
+-- is all a call looks at (`TooManyMoves` of `walk`). Writing the numbers of move j leaves those of the moves before it, so by induction the first j moves stand in the array.
 use Prim.Native.Nat.{ℕ, zero, suc, _+_, _*_, _<_, _≤_}
 use mathlib.Core.Path.{_≡_, refl, sym, _∙_, ap, subst}
-use mathlib.Core.Bool.{Bool, true, false, cond}
+use mathlib.Core.Bool.{Bool, true, false}
 use mathlib.Core.List.{List, [], _∷_}
 use native.Mathlib.Nat.{not-suc-le-zero}
 use native.Mathlib.Omega.{arith}
-use lib.Dec.{ltb, leb}
+use lib.Dec.{ltb}
 use lib.ListN.{length, getD, set, length-set, length-replicate}
 use lib.Seq.{getD-set-same, getD-set-other}
-use borrow.Author.Tests.{ltb-true, ltb-false, leb-true, leb-false}
+use borrow.Author.Tests.{ltb-true, ltb-false}
 use Rattle.walk.specs.declared.Move.{Move}
 use Rattle.walk.specs.Ceilings.{ceilings}
 use Rattle.walk.specs.Numbers.{table}
-use Rattle.walk.specs.declared.Network as network
-use Rattle.walk.specs.declared.Condition as condition
-use Rattle.walk.specs.declared.Ask.{Ask}
-use Rattle.walk.specs.Condition.{Condition}
-use Rattle.walk.specs.Question.{Question}
-use Rattle.walk.specs.Calls.{start, round, first, next}
-use Rattle.walk.specs.Answers.{conditionOf, question}
 use Rattle.walk.proofs.Numbers.{length-table, table-ext}
-use Rattle.walk.proofs.TooManyMoves.{TooMany, start-alike, round-alike, first-alike, next-alike}
+use Rattle.walk.proofs.TooManyMoves.{StandsFor}
 use Rattle.tables.specs.Lent.{moveOf, movesOf}
 use Rattle.moves.specs.Gathering.{none, blank, put, filled, gathered}
 use Rattle.moves.specs.declared.Gathered.{Gathered}
@@ -97,36 +89,11 @@ all-of (m ∷ ms) = ap (λ (l : List Move). m ∷ l) (all-of ms)
 abbrev pub listOf : Gathered → List Move
 listOf g = movesOf (g .count) (g .numbers)
 
-pub brought : (ms : List Move) → length ms ≤ ceilings .moves → listOf (gathered ms) ≡ ms
-brought ms l =
-    ap (λ (k : ℕ). movesOf (length ms) (filled k ms)) (most-all (length ms) (ceilings .moves) l)
-    ∙ table-ext (length ms) (moveOf (filled (length ms) ms)) (λ i. getD ms i none) (λ i h. stands (length ms) ms i h l) ∙ all-of ms
-
-module _ (n : network.Network) (c : condition.Condition) (a : Ask) (froms tos sets : List ℕ) (ms : List Move) where
-  abbrev Q : List Move → Question
-  Q = question n c a froms tos sets
-
-  abbrev C : List Move → Condition
-  C = conditionOf c
-
-  -- of whatever is the same where there are too many moves
-  by-count : {X : Type 0} (call : Question → X) → (TooMany (C (listOf (gathered ms))) → TooMany (C ms) → call (Q (listOf (gathered ms))) ≡ call (Q ms)) → call (Q (listOf (gathered ms))) ≡ call (Q ms)
-  by-count call alike = go (leb (length ms) (ceilings .moves)) refl
-    where
-      go : (t : Bool) → leb (length ms) (ceilings .moves) ≡ t → call (Q (listOf (gathered ms))) ≡ call (Q ms)
-      go true e = ap (λ (l : List Move). call (Q l)) (brought ms (leb-true _ _ e))
-      go false e =
-          let l : ceilings .moves < length ms = leb-false (length ms) (ceilings .moves) e in
-          alike (subst (λ (k : ℕ). ceilings .moves < k) (sym (length-table (length ms) _)) l) l
-
-  pub start-on : (w : List ℕ) → start (Q (listOf (gathered ms))) w ≡ start (Q ms) w
-  start-on w = by-count (λ D. start D w) (λ l l′. start-alike _ _ _ _ _ l l′ w)
-
-  pub round-on : (r : ℕ) (w : List ℕ) → round (Q (listOf (gathered ms))) r w ≡ round (Q ms) r w
-  round-on r w = by-count (λ D. round D r w) (λ l l′. round-alike _ _ _ _ _ l l′ r w)
-
-  pub first-on : (r : ℕ) (w b : List ℕ) → first (Q (listOf (gathered ms))) r w b ≡ first (Q ms) r w b
-  first-on r w b = by-count (λ D. first D r w b) (λ l l′. first-alike _ _ _ _ _ l l′ r w b)
-
-  pub next-on : (r : ℕ) (w b : List ℕ) → next (Q (listOf (gathered ms))) r w b ≡ next (Q ms) r w b
-  next-on r w b = by-count (λ D. next D r w b) (λ l l′. next-alike _ _ _ _ _ l l′ r w b)
+-- with as many as the ceiling or fewer they are the moves; with more, there are too many as well
+pub brought : (ms : List Move) → StandsFor (listOf (gathered ms)) ms
+brought ms = record {
+  same = λ l.
+      ap (λ (k : ℕ). movesOf (length ms) (filled k ms)) (most-all (length ms) (ceilings .moves) l)
+      ∙ table-ext (length ms) (moveOf (filled (length ms) ms)) (λ i. getD ms i none) (λ i h. stands (length ms) ms i h l) ∙ all-of ms;
+  many = λ l. subst (λ (k : ℕ). ceilings .moves < k) (sym (length-table (length ms) _)) l;
+}

@@ -1,11 +1,12 @@
--- The smaller of two numbers: it is at most either, and it is the first where that is at most the second.
+-- The smaller of two numbers: it is at most either, and it is the first where that is at most the second, and else the
+-- second.
 use Prim.Native.Nat.{ℕ, _≤_}
 use mathlib.Core.Path.{_≡_, refl}
 use mathlib.Core.Bool.{Bool, true, false, cond}
 use native.Mathlib.Nat.{le-refl}
 use native.Mathlib.Omega.{arith}
 use lib.Dec.{ltb}
-use borrow.Author.Tests.{ltb-true, ltb-false}
+use borrow.Author.Tests.{ltb-true, ltb-false, le-ltb}
 use Rattle.moves.specs.Gathering.{atMost}
 
 pub most-within : (n most : ℕ) → (atMost n most ≤ n) × (atMost n most ≤ most)
@@ -21,3 +22,6 @@ most-all n most l = go (ltb n most) refl
     go : (t : Bool) → ltb n most ≡ t → cond t n most ≡ n
     go true e = refl
     go false e = let h = ltb-false n most e in omega arith
+
+pub most-from : (n most : ℕ) → most ≤ n → atMost n most ≡ most
+most-from n most l = rw (le-ltb n most l)

@@ -3,8 +3,6 @@ use borrow.Author.Needs.{needs}
 use Rattle.rounds.specs.Answers.{saidPrepared}
 use Rattle.desk.proofs.gathered.prepared.Statement.{statement}
 use Rattle.desk.proofs.gathered.prepared.Tie as tie
-use Rattle.desk.proofs.gathered.prepared.Reads as reads
-use Rattle.desk.proofs.gathered.prepared.Lts as lts
 
 -- src/gathered.rt:23:33
 enum-known-p : tie.Need-enum-known-p

@@ -2,10 +2,6 @@ use mathlib.Core.Path.{_∙_}
 use borrow.Author.Needs.{needs}
 use Rattle.desk.proofs.gathered.round.Statement.{statement}
 use Rattle.desk.proofs.gathered.round.Tie as tie
-use Rattle.desk.proofs.gathered.round.Reads as reads
-use Rattle.desk.proofs.gathered.round.Lts as lts
-use Rattle.desk.proofs.gathered.prepared.Reads as prepared-reads
-use Rattle.rounds.proofs.round.Reads as round-reads
 
 -- src/gathered.rt:79:14
 round-requires : tie.Need-round-requires

@@ -2,10 +2,6 @@ use mathlib.Core.Path.{_∙_}
 use borrow.Author.Needs.{needs}
 use Rattle.desk.proofs.gathered.start.Statement.{statement}
 use Rattle.desk.proofs.gathered.start.Tie as tie
-use Rattle.desk.proofs.gathered.start.Reads as reads
-use Rattle.desk.proofs.gathered.start.Lts as lts
-use Rattle.desk.proofs.gathered.prepared.Reads as prepared-reads
-use Rattle.rounds.proofs.start.Reads as start-reads
 
 -- src/gathered.rt:46:14
 start-requires : tie.Need-start-requires
