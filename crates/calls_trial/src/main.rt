@@ -1,4 +1,4 @@
-// Tries the four calls as they are handed in on standard input, and writes what each answered and left. Who asks computes the same by brute force:
+// Tries the public calls as they are handed in on standard input, and writes what each answered and left. Who asks computes the same by brute force:
 // tools/try_rounds.py and tools/try_chains.py. A call is 192 words of 16 bits, lowest byte first; an answer is 64.
 //
 // The words of a call: 0 for start, 1 for a round, 2 for first, 3 for next; V, K, Q, s, t; the lengths of the three columns, the number of moves, the
@@ -10,11 +10,14 @@
 ghost use mathlib.Core.Path.{_≡_};
 ghost use Prim.Native.Nat.{_+_, _≤_, _<_};
 ghost use lib.ListN.{length};
-use rounds::Prepared;
-use rounds::Rounds;
+use desk::Prepared;
+use desk::Rounds;
+use desk::held;
+use desk::held::Held;
 use walk::Ask;
 use walk::Condition;
 use walk::First;
+use walk::Move;
 use walk::Network;
 use walk::Next;
 use walk::Refusal;
@@ -184,38 +187,32 @@ fn prepare(
     from: &[u16],
     to: &[u16],
     kinds: &[u32],
-    movefrom: &[u16; Condition::MOVES],
-    movekind: &[u16; Condition::MOVES],
-    moveto: &[u16; Condition::MOVES],
+    rows: [Move; Held::ROWS],
     area: &mut [u16],
 ) -> Prepared {
     if name == 0 {
-        return Rounds::start(
+        return held::start(
             l.network,
             l.condition,
             l.ask,
             from,
             to,
             kinds,
+            rows,
             l.moves,
-            movefrom,
-            movekind,
-            moveto,
             area,
         );
     }
-    let before = l.before;
-    before.round(
+    held::round(
+        l.before,
         l.network,
         l.condition,
         l.ask,
         from,
         to,
         kinds,
+        rows,
         l.moves,
-        movefrom,
-        movekind,
-        moveto,
         area,
     )
 }
@@ -226,16 +223,14 @@ fn call(
     from: &[u16],
     to: &[u16],
     kinds: &[u32],
-    movefrom: &[u16; Condition::MOVES],
-    movekind: &[u16; Condition::MOVES],
-    moveto: &[u16; Condition::MOVES],
+    rows: [Move; Held::ROWS],
     area: &mut [u16],
     chain: &mut [u16],
 ) {
     let name = word(asked, 0);
     let l = lent(asked);
     if name == 2 {
-        let f = chains::first(
+        let f = held::first(
             l.before,
             l.network,
             l.condition,
@@ -243,10 +238,8 @@ fn call(
             from,
             to,
             kinds,
+            rows,
             l.moves,
-            movefrom,
-            movekind,
-            moveto,
             area,
             chain,
         );
@@ -254,7 +247,7 @@ fn call(
         return;
     }
     if name == 3 {
-        let n = chains::next(
+        let n = held::next(
             l.before,
             l.network,
             l.condition,
@@ -262,29 +255,38 @@ fn call(
             from,
             to,
             kinds,
+            rows,
             l.moves,
-            movefrom,
-            movekind,
-            moveto,
             area,
             chain,
         );
         followed(said, n);
         return;
     }
-    let p = prepare(name, l, from, to, kinds, movefrom, movekind, moveto, area);
+    let p = prepare(name, l, from, to, kinds, rows, area);
     prepared(said, p);
 }
 
-fn with_ties(
-    asked: &[u8; 384],
-    said: &mut [u8; 128],
-    movefrom: &[u16; Condition::MOVES],
-    movekind: &[u16; Condition::MOVES],
-    moveto: &[u16; Condition::MOVES],
-    area: &mut [u16],
-    chain: &mut [u16],
-) {
+// The moves, in the first rows.
+fn moves(asked: &[u8; 384]) -> [Move; Held::ROWS] {
+    let mut rows = [Move {
+        from: 0,
+        kind: 0,
+        to: 0,
+    }; Held::ROWS];
+    let mut j = 0;
+    while j < 12 {
+        rows[j] = Move {
+            from: word(asked, 82 + j) as u16,
+            kind: word(asked, 94 + j) as u16,
+            to: word(asked, 106 + j) as u16,
+        };
+        j += 1;
+    }
+    rows
+}
+
+fn with_ties(asked: &[u8; 384], said: &mut [u8; 128], area: &mut [u16], chain: &mut [u16]) {
     let mut from = [0u16; 16];
     column(asked, 18, &mut from, 16);
     let mut to = [0u16; 16];
@@ -300,22 +302,10 @@ fn with_ties(
         &from[0..f],
         &to[0..t],
         &kinds[0..k],
-        movefrom,
-        movekind,
-        moveto,
+        moves(asked),
         area,
         chain,
     );
-}
-
-fn with_moves(asked: &[u8; 384], said: &mut [u8; 128], area: &mut [u16], chain: &mut [u16]) {
-    let mut movefrom = [0u16; Condition::MOVES];
-    column(asked, 82, &mut movefrom, 12);
-    let mut movekind = [0u16; Condition::MOVES];
-    column(asked, 94, &mut movekind, 12);
-    let mut moveto = [0u16; Condition::MOVES];
-    column(asked, 106, &mut moveto, 12);
-    with_ties(asked, said, &movefrom, &movekind, &moveto, area, chain);
 }
 
 fn turn(asked: &[u8; 384], said: &mut [u8; 128]) {
@@ -325,7 +315,7 @@ fn turn(asked: &[u8; 384], said: &mut [u8; 128]) {
     column(asked, 158, &mut chain, 12);
     let a = least(word(asked, 10), 40);
     let c = least(word(asked, 11), 12);
-    with_moves(asked, said, &mut area[0..a], &mut chain[0..c]);
+    with_ties(asked, said, &mut area[0..a], &mut chain[0..c]);
     words(said, 8, &area, 40);
     words(said, 48, &chain, 12);
 }

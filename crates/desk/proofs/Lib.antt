@@ -1,2 +1,5 @@
+pub mod Inputs
+pub mod Relay
 pub mod Rows
+pub mod Told
 pub mod Unique

@@ -58,9 +58,9 @@ use Rattle.moves.specs.Gathering.{none, atMost, blank as blankOf, put as
 use Rattle.moves.specs.declared.Gathered.{Gathered}
 use Rattle.moves.proofs.Gathered as G
 use Rattle.moves.proofs.Gathered.Laws as G′
-use Rattle.moves.proofs.Loans.{Words, words, value, to-lend, come-back}
+use Rattle.byhand.proofs.Loans.{Words, words, value, to-lend, come-back}
 use Rattle.moves.proofs.Most.{most-within}
-use Rattle.moves.proofs.While.{tests}
+use Rattle.byhand.proofs.While.{tests}
 use Rattle.moves.proofs.blank as blank
 use Rattle.moves.proofs.blank.Symbol as blank-def
 use Rattle.moves.proofs.blank.Met as blank-thm

@@ -8,10 +8,6 @@ use Rattle.moves.proofs.Most.{most-within}
 use Rattle.desk.proofs.Rows.{lent-rows}
 use Rattle.desk.proofs.held.first.Statement.{statement}
 use Rattle.desk.proofs.held.first.Tie as tie
-use Rattle.desk.proofs.held.first.Reads as reads
-use Rattle.desk.proofs.held.first.Lts as lts
-use Rattle.desk.proofs.lent.first.Reads as first-reads
-use Rattle.moves.proofs.at_most.Reads as at-most-reads
 
 -- src/held.rt:120:9
 at-most-requires : tie.Need-at-most-requires

@@ -8,10 +8,6 @@ use Rattle.moves.proofs.Most.{most-within}
 use Rattle.desk.proofs.Rows.{lent-rows}
 use Rattle.desk.proofs.held.next.Statement.{statement}
 use Rattle.desk.proofs.held.next.Tie as tie
-use Rattle.desk.proofs.held.next.Reads as reads
-use Rattle.desk.proofs.held.next.Lts as lts
-use Rattle.desk.proofs.lent.next.Reads as next-reads
-use Rattle.moves.proofs.at_most.Reads as at-most-reads
 
 -- src/held.rt:157:9
 at-most-requires : tie.Need-at-most-requires

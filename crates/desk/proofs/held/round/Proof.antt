@@ -8,10 +8,6 @@ use Rattle.moves.proofs.Most.{most-within}
 use Rattle.desk.proofs.Rows.{lent-rows}
 use Rattle.desk.proofs.held.round.Statement.{statement}
 use Rattle.desk.proofs.held.round.Tie as tie
-use Rattle.desk.proofs.held.round.Reads as reads
-use Rattle.desk.proofs.held.round.Lts as lts
-use Rattle.desk.proofs.lent.round.Reads as round-reads
-use Rattle.moves.proofs.at_most.Reads as at-most-reads
 
 -- src/held.rt:84:9
 at-most-requires : tie.Need-at-most-requires

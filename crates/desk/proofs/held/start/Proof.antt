@@ -8,10 +8,6 @@ use Rattle.moves.proofs.Most.{most-within}
 use Rattle.desk.proofs.Rows.{lent-rows}
 use Rattle.desk.proofs.held.start.Statement.{statement}
 use Rattle.desk.proofs.held.start.Tie as tie
-use Rattle.desk.proofs.held.start.Reads as reads
-use Rattle.desk.proofs.held.start.Lts as lts
-use Rattle.desk.proofs.lent.start.Reads as start-reads
-use Rattle.moves.proofs.at_most.Reads as at-most-reads
 
 -- src/held.rt:50:9
 at-most-requires : tie.Need-at-most-requires

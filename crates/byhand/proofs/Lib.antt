@@ -1,0 +1,5 @@
+pub mod Loans
+pub mod Locals
+pub mod Params
+pub mod Past
+pub mod While
