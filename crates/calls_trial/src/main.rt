@@ -267,6 +267,16 @@ fn call(
     prepared(said, p);
 }
 
+fn move_at(asked: &[u8; 384], j: usize) -> Move
+    requires { ⌜ j < 12 ⌝ }
+{
+    Move {
+        from: word(asked, 82 + j) as u16,
+        kind: word(asked, 94 + j) as u16,
+        to: word(asked, 106 + j) as u16,
+    }
+}
+
 // The moves, in the first rows.
 fn moves(asked: &[u8; 384]) -> [Move; Held::ROWS] {
     let mut rows = [Move {
@@ -276,11 +286,7 @@ fn moves(asked: &[u8; 384]) -> [Move; Held::ROWS] {
     }; Held::ROWS];
     let mut j = 0;
     while j < 12 {
-        rows[j] = Move {
-            from: word(asked, 82 + j) as u16,
-            kind: word(asked, 94 + j) as u16,
-            to: word(asked, 106 + j) as u16,
-        };
+        rows[j] = move_at(asked, j);
         j += 1;
     }
     rows
