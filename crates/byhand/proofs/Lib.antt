@@ -1,3 +1,4 @@
+pub mod Lends
 pub mod Loans
 pub mod Locals
 pub mod Params

@@ -1,4 +1,5 @@
 pub mod Inputs
+pub mod Loan
 pub mod Relay
 pub mod Rows
 pub mod Told
