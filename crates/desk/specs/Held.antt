@@ -4,7 +4,8 @@ use mathlib.Core.List.{List}
 use lib.ListN.{getD}
 use Rattle.walk.specs.declared.Move.{Move}
 use Rattle.walk.specs.Numbers.{table}
+use Rattle.walk.specs.Condition.{noMove}
 
 -- its first n rows, as a list. Past the array's end a row is all 0: so many are past the ceiling, and refused for their number
 abbrev pub rowsOf : ℕ → List Move → List Move
-rowsOf n rows = table n (λ j. getD rows j (record { from = 0; kind = 0; to = 0 }))
+rowsOf n rows = table n (λ j. getD rows j noMove)

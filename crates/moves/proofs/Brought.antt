@@ -12,11 +12,12 @@ use lib.Seq.{getD-set-same, getD-set-other}
 use borrow.Author.Tests.{ltb-true, ltb-false}
 use Rattle.walk.specs.declared.Move.{Move}
 use Rattle.walk.specs.Ceilings.{ceilings}
+use Rattle.walk.specs.Condition.{noMove}
 use Rattle.walk.specs.Numbers.{table}
 use Rattle.walk.proofs.Numbers.{length-table, table-ext}
 use Rattle.walk.proofs.TooManyMoves.{StandsFor}
 use Rattle.tables.specs.Lent.{moveOf, movesOf}
-use Rattle.moves.specs.Gathering.{none, blank, put, filled, gathered}
+use Rattle.moves.specs.Gathering.{blank, put, filled, gathered}
 use Rattle.moves.specs.declared.Gathered.{Gathered}
 use Rattle.moves.proofs.Most.{most-all}
 
@@ -66,21 +67,21 @@ put-own w j m l = λ d. record { from = from-is d; kind = kind-is d; to = to-is 
 length-filled : (j : ℕ) (ms : List Move) → length (filled j ms) ≡ 3 * ceilings .moves
 unfolding filled blank
 length-filled zero ms = length-replicate {A = ℕ} (3 * ceilings .moves) 0
-length-filled (suc j) ms = length-put (filled j ms) j (getD ms j none) ∙ length-filled j ms
+length-filled (suc j) ms = length-put (filled j ms) j (getD ms j noMove) ∙ length-filled j ms
 
-stands : (j : ℕ) (ms : List Move) (i : ℕ) → i < j → j ≤ ceilings .moves → moveOf (filled j ms) i ≡ getD ms i none
+stands : (j : ℕ) (ms : List Move) (i : ℕ) → i < j → j ≤ ceilings .moves → moveOf (filled j ms) i ≡ getD ms i noMove
 unfolding filled
 stands zero ms i l b = absurd (not-suc-le-zero l)
 stands (suc j) ms i l b = go (ltb i j) refl (λ h. stands j ms i h (omega arith))
   where
-    go : (t : Bool) → ltb i j ≡ t → (i < j → moveOf (filled j ms) i ≡ getD ms i none) → moveOf (filled (suc j) ms) i ≡ getD ms i none
-    go true e before = let h = ltb-true i j e in put-other (filled j ms) j (getD ms j none) i h ∙ before h
+    go : (t : Bool) → ltb i j ≡ t → (i < j → moveOf (filled j ms) i ≡ getD ms i noMove) → moveOf (filled (suc j) ms) i ≡ getD ms i noMove
+    go true e before = let h = ltb-true i j e in put-other (filled j ms) j (getD ms j noMove) i h ∙ before h
     go false e before =
         let h = ltb-false i j e in
         let same : j ≡ i = omega arith in
-        subst (λ (k : ℕ). moveOf (filled (suc j) ms) k ≡ getD ms k none) same (put-own (filled j ms) j (getD ms j none) (omega (arith, length-filled j ms)))
+        subst (λ (k : ℕ). moveOf (filled (suc j) ms) k ≡ getD ms k noMove) same (put-own (filled j ms) j (getD ms j noMove) (omega (arith, length-filled j ms)))
 
-all-of : (ms : List Move) → table (length ms) (λ i. getD ms i none) ≡ ms
+all-of : (ms : List Move) → table (length ms) (λ i. getD ms i noMove) ≡ ms
 unfolding table
 all-of [] = refl
 all-of (m ∷ ms) = ap (λ (l : List Move). m ∷ l) (all-of ms)
@@ -94,6 +95,6 @@ pub brought : (ms : List Move) → StandsFor (listOf (gathered ms)) ms
 brought ms = record {
   same = λ l.
       ap (λ (k : ℕ). movesOf (length ms) (filled k ms)) (most-all (length ms) (ceilings .moves) l)
-      ∙ table-ext (length ms) (moveOf (filled (length ms) ms)) (λ i. getD ms i none) (λ i h. stands (length ms) ms i h l) ∙ all-of ms;
+      ∙ table-ext (length ms) (moveOf (filled (length ms) ms)) (λ i. getD ms i noMove) (λ i h. stands (length ms) ms i h l) ∙ all-of ms;
   many = λ l. subst (λ (k : ℕ). ceilings .moves < k) (sym (length-table (length ms) _)) l;
 }

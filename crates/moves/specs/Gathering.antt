@@ -6,11 +6,8 @@ use lib.Dec.{ltb}
 use lib.ListN.{length, getD, set, replicate}
 use Rattle.walk.specs.declared.Move.{Move}
 use Rattle.walk.specs.Ceilings.{ceilings}
+use Rattle.walk.specs.Condition.{noMove}
 use Rattle.moves.specs.declared.Gathered.{Gathered}
-
--- what stands past the end of a list
-abbrev pub none : Move
-none = record { from = 0; kind = 0; to = 0 }
 
 -- the smaller of two numbers
 abbrev pub atMost : ℕ → ℕ → ℕ
@@ -26,7 +23,7 @@ blank = replicate (3 * ceilings .moves) 0
 -- the array with the numbers of the first j moves, the rest being 0
 unfoldable pub filled : ℕ → List Move → List ℕ
 filled zero ms = blank
-filled (suc j) ms = put (filled j ms) j (getD ms j none)
+filled (suc j) ms = put (filled j ms) j (getD ms j noMove)
 
 abbrev pub gathered : List Move → Gathered
 gathered ms = record { count = length ms; numbers = filled (atMost (length ms) (ceilings .moves)) ms }

@@ -17,7 +17,7 @@ use borrow.Author.Tests.{eqb-true, eqb-false}
 use Rattle.walk.specs.declared.Move.{Move}
 use Rattle.walk.specs.Ceilings.{ceilings}
 use Rattle.walk.specs.Numbers.{has, _and_, anyBelow}
-use Rattle.walk.specs.Condition.{Condition, moveAt, follows}
+use Rattle.walk.specs.Condition.{Condition, noMove, moveAt, follows}
 use Rattle.walk.proofs.Numbers.{Yes, and-in, and-of, or-in, eqb-of, anyBelow-in, anyBelow-of, length-table, getD-table, yes-same}
 use Rattle.tables.specs.Lent.{moveOf, movesOf}
 use Rattle.tables.specs.Steps.{Clear, InRange, Filled, steps}
@@ -72,10 +72,6 @@ pub next-none : (T : List ℕ) (kinds p q : ℕ) → has 0 q ≡ anyBelow 0 (by 
 unfolding anyBelow
 next-none T kinds p q = has-none q
 
--- the moves that one array holds
-abbrev none : Move
-none = record { from = 0; kind = 0; to = 0 }
-
 -- move j is in range
 pub record MoveIn (numbers : List ℕ) (K Q j : ℕ) : Type 0 where
   pub few : j < ceilings .moves
@@ -85,7 +81,7 @@ pub record MoveIn (numbers : List ℕ) (K Q j : ℕ) : Type 0 where
 
 module _ (C : Condition) (n : ℕ) (numbers : List ℕ) (e : C .moves ≡ movesOf n numbers) where
   move-is : (j : ℕ) → j < n → moveAt C j ≡ moveOf numbers j
-  move-is j l = ap (λ (m : List Move). getD m j none) e ∙ getD-table n _ j none l
+  move-is j l = ap (λ (m : List Move). getD m j noMove) e ∙ getD-table n _ j noMove l
 
   count-is : length (C .moves) ≡ n
   count-is = ap length e ∙ length-table n _

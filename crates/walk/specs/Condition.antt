@@ -15,10 +15,14 @@ pub record Condition : Type 0 where
   pub accept : ℕ
   pub moves : List Move
 
+-- what stands past the end of a list of moves
+abbrev pub noMove : Move
+noMove = record { from = 0; kind = 0; to = 0 }
+
 module _ (C : Condition) where
   -- move j, of those lent "as a list of such records"
   abbrev pub moveAt : ℕ → Move
-  moveAt j = getD (C .moves) j (record { from = 0; kind = 0; to = 0 })
+  moveAt j = getD (C .moves) j noMove
 
   -- q is a start state, q is an accepting state (000: I, F)
   unfoldable pub starts : ℕ → Bool

@@ -52,9 +52,10 @@ use denote.Triple.Walked.{says, Stays, stay-none-slice, walkOf, goes-none-slice,
 use denote.Exit.{yes}
 use denote.Triple.Clauses.{ensured, lasts, Lasts}
 use Rattle.walk.specs.declared.Move.{Move}
+use Rattle.walk.specs.Condition.{noMove}
 use Rattle.walk.proofs.Move as T
 use Rattle.walk.proofs.Move.Laws as T′
-use Rattle.moves.specs.Gathering.{none, atMost, blank as blankOf, put as putOf, filled, gathered}
+use Rattle.moves.specs.Gathering.{atMost, blank as blankOf, put as putOf, filled, gathered}
 use Rattle.moves.specs.declared.Gathered.{Gathered}
 use Rattle.moves.proofs.Gathered as G
 use Rattle.moves.proofs.Gathered.Laws as G′
@@ -89,9 +90,9 @@ abbrev turnsOf : ℕ → ℕ
 turnsOf n = atMost n 256
 
 -- one move more is written
-step-on : (w : List ℕ) (ys : List Move) (j : ℕ) → w ≡ filled j ys → putOf w j (getD ys j none) ≡ filled (j + 1) ys
+step-on : (w : List ℕ) (ys : List Move) (j : ℕ) → w ≡ filled j ys → putOf w j (getD ys j noMove) ≡ filled (j + 1) ys
 unfolding filled
-step-on w ys j e = ap (λ (u : List ℕ). putOf u j (getD ys j none)) e ∙ ap (λ (k : ℕ). filled k ys) (sym (add-one j))
+step-on w ys j e = ap (λ (u : List ℕ). putOf u j (getD ys j noMove)) e ∙ ap (λ (k : ℕ). filled k ys) (sym (add-one j))
 
 none-written : (ys : List Move) → blankOf ≡ filled 0 ys
 unfolding filled
@@ -259,11 +260,11 @@ module _ {M : Type 1} (𝓤 : URA M) (H : Heap 𝓤) (A : Atoms 𝓤) (W : Given
         assigns ! (bin ! (load ! (from ! (fld ! refl (stop !))) (look-in ! 24 (sub ! 0 refl (whole !)))) (load ! (from ! (stop !)) (look ! 8 refl)) tt) (from ! (stop !)) (init ! 6 refl (tt, tt)) $
         rewrite ! 6 (λ (p : ℕ). ‵ (fat fullShare tyPtr l₁₀ 0 (vptr b p))) (sym (place-is 6 o (x .j))) refl $
         move ! (29 ∷ 28 ∷ []) $ looks-slice ! tt T.the-row (Is T.the-row) (shows 𝓤 H A T.the-row) (LL.vals T.the-type T′.the-laws) (LL.tells T.the-type T′.the-laws) (LL.copy T.the-type T′.the-copy 𝓤 H A W) ys b o (λ q′.
-        elem-out ! T.the-row (Is T.the-row) (shows 𝓤 H A T.the-row) (LL.vals T.the-type T′.the-laws) (LL.tells T.the-type T′.the-laws) q′ ys (x .j) none b o (in-list less) (λ ism.
+        elem-out ! T.the-row (Is T.the-row) (shows 𝓤 H A T.the-row) (LL.vals T.the-type T′.the-laws) (LL.tells T.the-type T′.the-laws) q′ ys (x .j) noMove b o (in-list less) (λ ism.
         -- [moves[j]; what it owns; the others; what shuts; the fractured borrow; _13; …; _12; …; _11; …; _10; …; _9; …; _8; …; _7; …; _6; …; _5; …; j; …; the turns; …; the array; …; moves; …; _0; …; res; moves's fact]
         assigns ! (of-opd ! (load ! (from ! (hop ! (look ! 11 refl) (stop !))) (look-raw ! 0 refl))) (from ! (stop !)) (init ! 9 refl (LL.lawful T.the-type T′.the-laws 𝓤 H A W .typed m _ ism .0)) $
         assigns ! (of-opd ! (load ! (from ! (stop !)) (look ! 9 refl))) (from ! (stop !)) (init ! 21 refl (LL.lawful T.the-type T′.the-laws 𝓤 H A W .typed m _ ism .0)) $
-        elem-back ! T.the-row q′ ys (x .j) none (T′.lowered m ∷ []) b o (in-list less) $ shuts-slice ! tt T.the-row q′ ys b o $
+        elem-back ! T.the-row q′ ys (x .j) noMove (T′.lowered m ∷ []) b o (in-list less) $ shuts-slice ! tt T.the-row q′ ys b o $
         -- [the token; the fractured borrow; _13; …]: the array is lent
         assigns ! (addr ! (from ! (stop !))) (from ! (stop !)) (init ! 2 refl (tt, tt)) $
         move ! (24 ∷ []) $ use1 W (‵ (memory (Words 768) .lies (x .w) l₂ 0)) (to-lend 768 𝓤 H A W (x .w) l₂ (x .is)) $
@@ -303,7 +304,7 @@ module _ {M : Type 1} (𝓤 : URA M) (H : Heap 𝓤) (A : Atoms 𝓤) (W : Given
         by ! (exits r u (e ∙ ap (held n) (x .so-far ∙ ap (λ (k : ℕ). filled k ys) (at-end over)))))))))
       where
         m : Move
-        m = getD ys (x .j) none
+        m = getD ys (x .j) noMove
 
         is-less : Holds (ltb (x .j) (turnsOf n)) → x .j < turnsOf n
         is-less less = ltb→lt (x .j) (turnsOf n) less
