@@ -1,3 +1,4 @@
+pub mod Arguments
 pub mod Lends
 pub mod Loans
 pub mod Locals
