@@ -1,4 +1,5 @@
 pub mod Arguments
+pub mod Calls
 pub mod Lends
 pub mod Loans
 pub mod Locals
