@@ -1,4 +1,4 @@
--- What a function's arguments own, taken apart and put together again, and the tokens of its lifetimes: how a call passes its own arguments on, with another one in the place of some. It says nothing of the crate.
+-- What a function's arguments own, taken apart and put together again, and the tokens of its lifetimes: how a call passes its own arguments on, with another one in the place of some.
 --     lfts, share, shares       the lifetimes but the one numbered j; its share; the others' shares.        lft-put, share-put     one more, as number j
 --     token-out, token-in, token-put, token-take     their tokens
 --     front, back, joined       the first arguments, the others, and both again.        owns-split, owns-join     what they own

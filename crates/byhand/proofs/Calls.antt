@@ -1,4 +1,4 @@
--- A call, in a walk, of a function whose contract ensures one fact. It says nothing of the crate.
+-- A call, in a walk, of a function whose contract ensures one fact.
 --     datum            a field's type as a parameter
 --     owned-all        plain data is owned for nothing.        Unsaid, unsaid   what a contract says at exit of parameters that are only read: nothing
 --     Left, Leaves     what a function leaves: the tokens P, its result r at the machine value u, what is said of its parameters at exit, and φ of both.        Gives     it does so at the arguments a, where a caller needs N beside P and what a owns

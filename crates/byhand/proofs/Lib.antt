@@ -1,7 +1,7 @@
 pub mod Arguments
 pub mod Calls
-pub mod Lends
-pub mod Loans
+pub mod LentPart
+pub mod LentWhole
 pub mod Locals
 pub mod Params
 pub mod Past

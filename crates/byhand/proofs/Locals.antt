@@ -1,4 +1,4 @@
--- The locals of a function as ONE entry of the context of a walk, so that a walk names a local by its number and not by where its cell stands. It says nothing of the crate.
+-- The locals of a function as one entry of the context of a walk, so that a walk names a local by its number and not by where its cell stands.
 --     Cell             what a local holds: nothing yet (`empty`), a value (`full v`), or its cell is lent out (`away`)
 --     Locals E us      the cells of the locals E, with what they hold, us, and the right to free each
 --     enters           a function is entered: its locals hold its arguments, each being of its parameter's type (`Fit`), and else nothing

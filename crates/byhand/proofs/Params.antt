@@ -1,4 +1,4 @@
--- The parameters of a function as a list, and how a walk that ends in what the contract's triple leaves is taken to the contract. It says nothing of the crate.
+-- The parameters of a function as a list, and how a walk that ends in what the contract's triple leaves is taken to the contract.
 --     Param            a parameter's type, of one machine value, with its laws, and what a contract names of an argument: the argument itself, or of a slice its list.        struct, enum, array, number, shared, lent     those that there are, shared being `&[R]` and lent `&mut [R]`
 --     lft              the lifetime numbered j of n + 1.        slice     a slice's machine value
 --     rows, places, vals, valss     the types of a list of parameters; their locals; the machine values of arguments, in a row, and as a list for each

@@ -1,4 +1,4 @@
--- The locals past a function's first parameters, where those parameters are any list: what a walk needs that is made for every list of parameters at once. It says nothing of the crate.
+-- The locals past a function's first parameters, where those parameters are any list: what a walk needs that is made for every list of parameters at once.
 -- The locals are the result's, of the type ρ; those of the first parameters, ps, which hold ws; and then ls, which hold us. A local of ls is named by its place k in ls, and is local `suc (past ps k)` of the function.
 --     frame, held      the function's locals, and what they hold, r being what the result's holds
 --     at-past, fills-past, arg-past     `Locals.antt`'s `at-local`, `fills` and `arg` for a local of ls

@@ -40,7 +40,7 @@ use Rattle.walk.specs.declared.Move.{Move}
 use Rattle.walk.proofs.Move as Mv
 use Rattle.walk.proofs.Move.Laws as Mv′
 use Rattle.byhand.proofs.Arguments.{lft-put, share-put, token-put, token-take, owns-split, owns-join, after, early, middle, late, last, after-args, after-vals, args-with, vals-with, Ends, end, ends, end-is, end-said, end-out, end-in}
-use Rattle.byhand.proofs.Lends.{Way, lends-rows, rows-back}
+use Rattle.byhand.proofs.LentPart.{Way, lends-rows, rows-back}
 use Rattle.byhand.proofs.Locals.{Cell, empty, full, away, Locals, AllFull, up, copies, contents, arg, args, fills, Blocks, at-blocks, Fit, enters, leaves}
 use Rattle.byhand.proofs.Params.{Param, struct, array, number, lent, slice, rows, places, vals, valss, Curried, applied}
 use Rattle.byhand.proofs.Past.{past, Same, fit-past, home-past, holding-past, frame, held, pointer, lending, fills-past, arg-past, lends-on, lends-out-past, takes-back-past}

@@ -51,7 +51,7 @@ use Rattle.moves.specs.declared.Gathered.{Gathered}
 use Rattle.moves.proofs.Gathered as G
 use Rattle.moves.proofs.Gathered.Laws as G′
 use Rattle.moves.proofs.Most.{most-within}
-use Rattle.byhand.proofs.Loans.{Words, value, loan, lends, lent-back}
+use Rattle.byhand.proofs.LentWhole.{Words, value, loan, lends, lent-back}
 use Rattle.byhand.proofs.Locals.{Cell, empty, full, Locals, at-local, fills, arg, arg-part, args, Blocks, at-blocks, enters, leaves, forgets}
 use Rattle.byhand.proofs.Calls.{datum, Unsaid, unsaid, Left, Leaves, Gives, owned-all, calls-for, calls-plain}
 use Rattle.byhand.proofs.Params.{Param, struct, shared, slice, rows, valss, laws, meets-by}

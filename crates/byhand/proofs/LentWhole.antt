@@ -1,4 +1,4 @@
--- A local array of 16-bit numbers as it lies in memory, so that it can be lent whole, `&mut numbers`, for a call, and comes back. It says nothing of the crate.
+-- A local array of 16-bit numbers as it lies in memory, so that it can be lent whole, `&mut numbers`, for a call, and comes back.
 --     Words n, value     the array's type, and its machine value
 --     to-lend            the array's cell, at a machine value that is the array's   ⊢   the array lies at l
 --     come-back          the array lies at l   ⊢   the array's cell, and its machine value is the array's
@@ -41,14 +41,14 @@ module _ (n : ℕ) where
   value ws = arrayVal (map (λ (x : ℕ). vint w16 x) ws)
 
   module _ {M : Type 1} (𝓤 : URA M) (H : Heap 𝓤) (A : Atoms 𝓤) (W : Given 𝓤 H A) (ws : List ℕ) (l : ℕ) where
-    pub to-lend : Is Words ws (value ws ∷ []) → ent 𝓤 (H .at fullShare words l 0 (value ws)) (sem 𝓤 H A (mem Words .lies ws l 0))
+    to-lend : Is Words ws (value ws ∷ []) → ent 𝓤 (H .at fullShare words l 0 (value ws)) (sem 𝓤 H A (mem Words .lies ws l 0))
     unfolding partOf
     to-lend is =
         qed W (‵ (fat fullShare words l 0 (value ws)) ∷ []) ∵ use1 W (‵ (cellAt fullShare (words ∷ []) (value ws ∷ []) l 0)) (W .laws .at-raw fullShare words l 0 (value ws)) $
         owned ! Words (Is Words) (array-makes 𝓤 H A W u16 (uint-makes 𝓤 H A W w16) n) ws _ is $ move ! (1 ∷ 0 ∷ []) $ fjoin ! $
         fpack ! (List Val) (λ vs. fsep (cellAt fullShare (words ∷ []) vs l 0) (Words .own ws vs)) (value ws ∷ []) $ done !
 
-    pub come-back : ent 𝓤 (sem 𝓤 H A (mem Words .lies ws l 0)) (guard 𝓤 (Is Words ws (value ws ∷ [])) (H .at fullShare words l 0 (value ws)))
+    come-back : ent 𝓤 (sem 𝓤 H A (mem Words .lies ws l 0)) (guard 𝓤 (Is Words ws (value ws ∷ [])) (H .at fullShare words l 0 (value ws)))
     unfolding partOf
     come-back =
         qed W (‵ (partAt Words fullShare ws l 0) ∷ []) ∵ fpick ! (λ vs. fsplit ! $ move ! (1 ∷ []) $ facts ! Words (Is Words) (shows 𝓤 H A Words) ws vs (λ is.
