@@ -1,9 +1,13 @@
 -- What a function's arguments own, taken apart and put together again, and the tokens of its lifetimes: how a call passes its own arguments on, with another one in the place of some.
---     lfts, share, shares       the lifetimes but the one numbered j; its share; the others' shares.        lft-put, share-put     one more, as number j
---     token-out, token-in, token-put, token-take     their tokens
---     front, back, joined       the first arguments, the others, and both again.        owns-split, owns-join     what they own
---     early, middle, late, last     the arguments of a call, whose parameters are bs, some of the types Xs, cs, and a last one.        args-with, vals-with     the same with others in the place of the middle, and their machine values
---     Ends, end, ends, end-said     the last values of a call of k + 1 parameters whose last one is its one `&mut`, and what is said of them.        end-out, end-in     from what is said of the last one, and back
+--     lfts, share, shares                     the lifetimes but the one numbered j; its share; the others' shares
+--     lft-put, share-put                      one more, as number j
+--     token-out, token-in, token-put, token-take    their tokens
+--     front, back, joined                     the first arguments, the others, and both again
+--     owns-split, owns-join                   what they own
+--     early, middle, late, last               the arguments of a call, whose parameters are bs, some of the types Xs, cs, and a last one
+--     args-with, vals-with                    the same with others in the place of the middle, and their machine values
+--     Ends, end, ends, end-said               the last values of a call of k + 1 parameters whose last one is its one `&mut`, and what is said of them
+--     end-out, end-in                         from what is said of the last one, and back
 -- Assumes `Given`.
 use mathlib.Core.Path.{_≡_, refl}
 use Prim.Native.Nat.{ℕ, zero, suc}
@@ -19,7 +23,7 @@ use denote.RattleType.{RattleType, Denots, Valss, owns}
 use denote.Steps.{nothing}
 use Rattle.byhand.proofs.Params.{lft, Param, rows, valss}
 
--- ---- one lifetime of several, and the others
+-- one lifetime of several, and the others
 abbrev pub lfts : (n j : ℕ) → Lfts (suc n) → Lfts n
 lfts zero j κs = tt
 lfts (suc n) zero κs = κs .1
@@ -46,7 +50,7 @@ share-put zero j q qs = (q, tt)
 share-put (suc n) zero q qs = (q, qs)
 share-put (suc n) (suc j) q qs = (qs .0, share-put n j q (qs .1))
 
--- ---- the first arguments, and the others
+-- the first arguments, and the others
 module _ (Xs : List RattleType) where
   abbrev pub front : (Bs : List RattleType) → Denots (Bs ++ Xs) → Denots Bs
   front [] a = tt
@@ -64,7 +68,7 @@ module _ (Xs : List RattleType) where
   joined-vals [] vss uss = uss
   joined-vals (B ∷ Bs) vss uss = (vss .0, joined-vals Bs (vss .1) uss)
 
--- ---- the arguments of a call
+-- the arguments of a call
 module _ (cs : List Param) (l : Param) where
   abbrev pub after : List RattleType
   after = rows cs ++ l .row ∷ []
@@ -94,7 +98,7 @@ module _ (bs cs : List Param) (l : Param) (Xs : List RattleType) (a : Denots (ro
   abbrev pub vals-with : (Ys : List RattleType) → Valss Ys → Valss (rows bs ++ (Ys ++ after cs l))
   vals-with Ys uss = joined-vals (Ys ++ after cs l) (rows bs) (valss bs early) (joined-vals (after cs l) Ys uss after-vals)
 
--- ---- what is said at exit, where k parameters of which nothing is said stand before the last, of which F is said
+-- what is said at exit, where k parameters of which nothing is said stand before the last, of which F is said
 abbrev pub Ends : ℕ → Type 0 → Type 0
 Ends zero Z = Z × Unit {0}
 Ends (suc k) Z = Unit {0} × Ends k Z
@@ -116,7 +120,7 @@ module _ {Z : Type 0} where
   end-said zero F zs = fsep (F (zs .0)) ftrue
   end-said (suc k) F zs = fsep ftrue (end-said k F (zs .1))
 
--- ---- what is owned
+-- what is owned
 module _ {M : Type 1} (𝓤 : URA M) (H : Heap 𝓤) (A : Atoms 𝓤) (W : Given 𝓤 H A) where
   pub owns-split : (Xs Bs : List RattleType) (a : Denots Bs) (b : Denots Xs) (vss : Valss Bs) (uss : Valss Xs) → ent 𝓤 (sem 𝓤 H A (owns (Bs ++ Xs) (joined Xs Bs a b) (joined-vals Xs Bs vss uss))) (sep 𝓤 (sem 𝓤 H A (owns Bs a vss)) (sem 𝓤 H A (owns Xs b uss)))
   owns-split Xs [] a b vss uss = emp∗ 𝓤 _
@@ -156,7 +160,7 @@ module _ {M : Type 1} (𝓤 : URA M) (H : Heap 𝓤) (A : Atoms 𝓤) (W : Given
       qed W (‵ (flft (κs .0) (qs .0)) ∷ raw (toks 𝓤 A (suc n) (lft-put n j κ (κs .1)) (share-put n j q (qs .1))) ∷ []) ∵ move ! (1 ∷ []) $
       use1 W (‵ (flft κ q) ⊛ raw (toks 𝓤 A n (κs .1) (qs .1))) (token-take n j κ q (κs .1) (qs .1)) $ split ! $ move ! (0 ∷ 2 ∷ 1 ∷ []) $ done !
 
-  -- ---- what is said of the last parameter, from among the others and back
+  -- what is said of the last parameter, from among the others and back
   pub end-out : {Z : Type 0} (k : ℕ) (F : Z → Fml) (zs : Ends k Z) → ent 𝓤 (sem 𝓤 H A (end-said k F zs)) (sem 𝓤 H A (F (end k zs)))
   end-out zero F zs = qed W (‵ (end-said zero F zs) ∷ []) ∵ fsplit ! $ keep ! (0 ∷ []) $ done !
   end-out (suc k) F zs = qed W (‵ (end-said (suc k) F zs) ∷ []) ∵ fsplit ! $ drop ! $ by ! (end-out k F (zs .1))

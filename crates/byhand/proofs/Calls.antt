@@ -1,8 +1,11 @@
 -- A call, in a walk, of a function whose contract ensures one fact.
---     datum            a field's type as a parameter
---     owned-all        plain data is owned for nothing.        Unsaid, unsaid   what a contract says at exit of parameters that are only read: nothing
---     Left, Leaves     what a function leaves: the tokens P, its result r at the machine value u, what is said of its parameters at exit, and φ of both.        Gives     it does so at the arguments a, where a caller needs N beside P and what a owns
---     calls-for        a call of such a function, whose result, y, goes to local d.        calls-plain     the same where the arguments are plain data and the contract says r ≡ x. Where the operands are read, the locals are entry 1 of the context
+--     datum             a field's type as a parameter
+--     owned-all         plain data is owned for nothing
+--     Unsaid, unsaid    what a contract says at exit of parameters that are only read: nothing
+--     Left, Leaves      what a function leaves: the tokens P, its result r at the machine value u, what is said of its parameters at exit, and φ of both
+--     Gives             it does so at the arguments a, where a caller needs N beside P and what a owns
+--     calls-for         a call of such a function, whose result, y, goes to local d
+--     calls-plain       the same where the arguments are plain data and the contract says r ≡ x. Where the operands are read, the locals are entry 1 of the context
 -- Assumes `Given`.
 use mathlib.Core.Path.{_≡_, refl, _∙_, subst}
 use Prim.Native.Nat.{ℕ}

@@ -1,8 +1,8 @@
 -- A local array of 16-bit numbers as it lies in memory, so that it can be lent whole, `&mut numbers`, for a call, and comes back.
---     Words n, value     the array's type, and its machine value
---     to-lend            the array's cell, at a machine value that is the array's   ⊢   the array lies at l
---     come-back          the array lies at l   ⊢   the array's cell, and its machine value is the array's
---     lends, lent-back     local i, which is such an array, is lent for a lifetime that is made for it; and once that is over it is a local again, at the loan's last value
+--     Words n, value      the array's type, and its machine value
+--     to-lend             the array's cell, at a machine value that is the array's   ⊢   the array lies at l
+--     come-back           the array lies at l   ⊢   the array's cell, and its machine value is the array's
+--     lends, lent-back    local i, which is such an array, is lent for a lifetime that is made for it; and once that is over it is a local again, at the loan's last value
 -- Assumes `Given`.
 use mathlib.Core.Path.{_≡_, refl, sym, subst}
 use Prim.Native.Nat.{ℕ}

@@ -1,12 +1,14 @@
 -- The locals of a function as one entry of the context of a walk, so that a walk names a local by its number and not by where its cell stands.
---     Cell             what a local holds: nothing yet (`empty`), a value (`full v`), or its cell is lent out (`away`)
---     Locals E us      the cells of the locals E, with what they hold, us, and the right to free each
---     enters           a function is entered: its locals hold its arguments, each being of its parameter's type (`Fit`), and else nothing
---     at-local i       the cell of local i, for `look-in` and `store-in`.        fills n i      a first value for local i, where the locals are entry n of the context
---     arg n i, arg-part n i k, args n is     the operands `copy _i` and `copy _i.k`, and one `copy _i` for each i of is.        up i k      the numbers of k locals, from i on
---     forgets is       the locals is, which hold values, hold nothing
---     lends-out, takes-back, takes-in        the cell of a local, out of the locals and back, empty or full
---     leaves           the function returns what local 0 holds, and its locals are freed
+--     Cell                                  what a local holds: nothing yet (`empty`), a value (`full v`), or its cell is lent out (`away`)
+--     Locals E us                           the cells of the locals E, with what they hold, us, and the right to free each
+--     enters                                a function is entered: its locals hold its arguments, each being of its parameter's type (`Fit`), and else nothing
+--     at-local i                            the cell of local i, for `look-in` and `store-in`
+--     fills n i                             a first value for local i, where the locals are entry n of the context
+--     arg n i, arg-part n i k, args n is    the operands `copy _i` and `copy _i.k`, and one `copy _i` for each i of is
+--     up i k                                the numbers of k locals, from i on
+--     forgets is                            the locals is, which hold values, hold nothing
+--     lends-out, takes-back, takes-in       the cell of a local, out of the locals and back, empty or full
+--     leaves                                the function returns what local 0 holds, and its locals are freed
 -- Assumes `Given`.
 use mathlib.Core.Path.{_≡_, refl, sym, _∙_, ap, subst}
 use Prim.Native.Nat.{ℕ, zero, suc}
@@ -54,7 +56,7 @@ set-same [] i = refl
 set-same (u ∷ us) zero = refl
 set-same (u ∷ us) (suc i) = ap (λ (ws : List Cell). u ∷ ws) (set-same us i)
 
--- ---- one cell, out of the locals and back
+-- one cell, out of the locals and back
 -- local i, with its block
 abbrev spot : List (Ty × ℕ) → ℕ → Ty × ℕ
 spot E i = getD E i (tyEnum [] ttnil, zero)
@@ -91,7 +93,7 @@ module _ {M : Type 1} (𝓤 : URA M) (H : Heap 𝓤) (A : Atoms 𝓤) (W : Given
       qed W (‵ (holds (spot E i) c) ∷ raw (all 𝓤 (Back 𝓤 H A E us i)) ∷ []) ∵ move ! (1 ∷ []) $ use1 W (raw (Back 𝓤 H A E us i c)) (allE 𝓤 (Back 𝓤 H A E us i) c) $ move ! (1 ∷ 0 ∷ []) $
       use2 W (‵ (Locals E (set us i c))) (apply∗ 𝓤 (sem 𝓤 H A (holds (spot E i) c)) (sem 𝓤 H A (Locals E (set us i c)))) $ done !
 
--- ---- reading and writing
+-- reading and writing
 -- the cell holds a value, and X
 abbrev FullAnd : Cell → Type 0 → Type 0
 FullAnd empty X = ⊥
@@ -181,7 +183,7 @@ abbrev pub emptied : List Cell → List ℕ → List Cell
 emptied us [] = us
 emptied us (i ∷ is) = emptied (set us i empty) is
 
--- ---- entering and leaving
+-- entering and leaving
 -- the blocks of the locals ls, and the locals at those
 abbrev pub Blocks : List Local → Type 0
 Blocks [] = Unit {0}
@@ -262,7 +264,7 @@ module _ {M : Type 1} {𝓤 : URA M} {H : Heap 𝓤} {A : Atoms 𝓤} {K : Type 
       → Step K W Γ (prop (Kf v)) (‵ (Locals E us) ∷ Γ) (runs C Λ E return (atRet E Kf))
   leaves t {E} {us} e home = step (λ s. returns t (look-in t 0 (at-local t 0 e)) $ fsplit t $ drop t $ freed t E us home s)
 
-  -- ---- a local's cell, lent out and brought back
+  -- a local's cell, lent out and brought back
   pub lends-out : K → {E : Env 𝓤 H} {us : List Cell} {Γ : List (Item 𝓤)} {G : Goal 𝓤 H} (i : ℕ) {v : Val} → getD us i away ≡ full v
       → Step K W (‵ (fat fullShare (spotOf 𝓤 H E i .0) (spotOf 𝓤 H E i .1) zero v) ∷ ‵ (Locals E (set us i away)) ∷ Γ) G (‵ (Locals E us) ∷ Γ) G
   lends-out t {E} {us} i {v} e = step (λ s. use1 W (‵ (holds (spot E i) (full v)) ⊛ raw (all 𝓤 (Back 𝓤 H A E us i))) (one-out 𝓤 H A W E us i e) $ split t $ nothing t $ move t (0 ∷ 2 ∷ []) $

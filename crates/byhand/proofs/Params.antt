@@ -1,9 +1,12 @@
 -- The parameters of a function as a list, and how a walk that ends in what the contract's triple leaves is taken to the contract.
---     Param            a parameter's type, of one machine value, with its laws, and what a contract names of an argument: the argument itself, or of a slice its list.        struct, enum, array, number, shared, lent     those that there are, shared being `&[R]` and lent `&mut [R]`
---     lft              the lifetime numbered j of n + 1.        slice     a slice's machine value
---     rows, places, vals, valss     the types of a list of parameters; their locals; the machine values of arguments, in a row, and as a list for each
---     Curried, applied      a function of what a contract names of the arguments, one by one, and its value at given arguments.        Every, every-at    a law that relates two such, for all arguments and at given ones
---     laws, meets-by   a run meets a contract, from a walk at each choice of lifetimes, shares and arguments, with the machine values written out and of their types
+--     Param                                   a parameter's type, of one machine value, with its laws, and what a contract names of an argument: the argument itself, or of a slice its list
+--     struct, enum, array, number, shared, lent    those that there are, shared being `&[R]` and lent `&mut [R]`
+--     lft                                     the lifetime numbered j of n + 1
+--     slice                                   a slice's machine value
+--     rows, locals-of, vals, valss               the types of a list of parameters; their locals; the machine values of arguments, in a row, and as a list for each
+--     Curried, applied                        a function of what a contract names of the arguments, one by one, and its value at given arguments
+--     Every, every-at                         a law that relates two such, for all arguments and at given ones
+--     laws, meets-by                          a run meets a contract, from a walk at each choice of lifetimes, shares and arguments, with the machine values written out and of their types
 -- Assumes `Given`.
 use Prim.Native.Nat.{ℕ, zero, suc}
 use mathlib.Core.List.{List, [], _∷_, map}
@@ -36,13 +39,13 @@ use denote.Struct.Laws as LL
 use denote.Triple.Entry.{Args, Vals, onEntry}
 use denote.Triple.Spec.{Spec, Meets, tripleOf}
 
--- ---- a lifetime of several
+-- a lifetime of several
 abbrev pub lft : (n j : ℕ) → Lfts (suc n) → Lft
 lft zero j κs = κs .0
 lft (suc n) zero κs = κs .0
 lft (suc n) (suc j) κs = lft n j (κs .1)
 
--- ---- a parameter
+-- a parameter
 pub record Param : Type 2 where
   pub row : RattleType
   pub val : row .Denot → Val
@@ -94,14 +97,14 @@ lent n j κs R = record {
   names = λ x. x .now;
 }
 
--- ---- a list of parameters
+-- a list of parameters
 abbrev pub rows : List Param → List RattleType
 rows [] = []
 rows (p ∷ ps) = p .row ∷ rows ps
 
-abbrev pub places : List Param → List Local
-places [] = []
-places (p ∷ ps) = local (lone (p .row .mir)) valueLocal ∷ places ps
+abbrev pub locals-of : List Param → List Local
+locals-of [] = []
+locals-of (p ∷ ps) = local (lone (p .row .mir)) valueLocal ∷ locals-of ps
 
 abbrev pub vals : (ps : List Param) → Denots (rows ps) → List Val
 vals [] a = []
@@ -135,7 +138,7 @@ pub every-at : (ps : List Param) {X Y : Type 1} (P : X → Y → Type 0) (f : Cu
 every-at [] P f g h a = h
 every-at (p ∷ ps) P f g h a = every-at ps P (f (p .names (a .0))) (g (p .names (a .0))) (h (p .names (a .0))) (a .1)
 
--- ---- from a walk to a contract
+-- from a walk to a contract
 module _ {M : Type 1} (𝓤 : URA M) (H : Heap 𝓤) (A : Atoms 𝓤) where
   -- how each parameter's machine value is spelled, that its type tells it, and that it is of its MIR type
   abbrev Laws : List RattleType → Type 1

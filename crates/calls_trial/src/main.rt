@@ -144,7 +144,7 @@ fn words(said: &mut [u8; 128], i: usize, buffer: &[u16; 40], n: usize)
     }
 }
 
-fn least(a: usize, b: usize) -> usize
+fn at_most(a: usize, b: usize) -> usize
     ensures { λ r. ⌜ r ≤ b ⌝ }
 {
     if a < b { a } else { b }
@@ -299,9 +299,9 @@ fn with_ties(asked: &[u8; 384], said: &mut [u8; 128], area: &mut [u16], chain: &
     column(asked, 34, &mut to, 16);
     let mut kinds = [0u32; 16];
     sets(asked, 50, &mut kinds, 16);
-    let f = least(word(asked, 6), 16);
-    let t = least(word(asked, 7), 16);
-    let k = least(word(asked, 8), 16);
+    let f = at_most(word(asked, 6), 16);
+    let t = at_most(word(asked, 7), 16);
+    let k = at_most(word(asked, 8), 16);
     call(
         asked,
         said,
@@ -319,8 +319,8 @@ fn turn(asked: &[u8; 384], said: &mut [u8; 128]) {
     column(asked, 118, &mut area, 40);
     let mut chain = [0u16; 40];
     column(asked, 158, &mut chain, 12);
-    let a = least(word(asked, 10), 40);
-    let c = least(word(asked, 11), 12);
+    let a = at_most(word(asked, 10), 40);
+    let c = at_most(word(asked, 11), 12);
     with_ties(asked, said, &mut area[0..a], &mut chain[0..c]);
     words(said, 8, &area, 40);
     words(said, 48, &chain, 12);

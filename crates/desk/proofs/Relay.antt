@@ -1,9 +1,9 @@
 -- A public call that has its moves gathered and passes what is gathered on, with its other parameters, to an inner call:
 --     fn X(before, moves: &[Move], between, last: &mut [R]) -> Answer { X_in(before, moves::gather(moves), between, last) }
 -- proved once, over the lists of its parameters, `before` being bs and `between` cs, and over the inner call.
---     params           its parameters
---     inner-args, inner-vals     what the inner call is passed, and its machine values
---     passes-on        what the inner call promises of what is gathered, such a call promises of the moves
+--     params                    its parameters
+--     inner-args, inner-vals    what the inner call is passed, and its machine values
+--     passes-on                 what the inner call promises of what is gathered, such a call promises of the moves
 -- Assumes `Given`, and that `gather` and the inner call meet their contracts.
 use mathlib.Core.Path.{_≡_, refl, subst}
 use Prim.Native.Nat.{ℕ, suc, _+_}
@@ -43,10 +43,10 @@ use Rattle.moves.proofs.Gathers.{Gather, gathers}
 use Rattle.moves.proofs.gather.Symbol.{name as #gather}
 use Rattle.byhand.proofs.Arguments.{lfts, share, shares, token-out, token-in, owns-split, owns-join, after, early, middle, late, last, after-args, after-vals, args-with, vals-with, Ends, end, end-said}
 use Rattle.byhand.proofs.Locals.{Cell, empty, full, away, Locals, AllFull, up, copies, contents, arg, args, fills, at-blocks, Fit, enters, leaves}
-use Rattle.byhand.proofs.Params.{lft, Param, shared, lent, slice, rows, places, vals, valss, Curried, applied, Every, every-at}
+use Rattle.byhand.proofs.Params.{lft, Param, shared, lent, slice, rows, locals-of, vals, valss, Curried, applied, Every, every-at}
 use Rattle.byhand.proofs.Past.{past, Same, fit-past, home-past, holding-past, frame, held, pointer, lending, fills-past, lends-on}
 
--- ---- the call. Its lifetimes are n + 1, of which the moves' is number j and the last parameter's number n
+-- the call. Its lifetimes are n + 1, of which the moves' is number j and the last parameter's number n
 module _ (n j : ℕ) (κs : Lfts (suc n)) (bs cs : List Param) (R : RattleType) where
   abbrev moves : Param
   moves = shared n j κs Mv.the-row
@@ -59,10 +59,10 @@ module _ (n j : ℕ) (κs : Lfts (suc n)) (bs cs : List Param) (R : RattleType) 
 
   -- its locals: the answer's, those of the parameters but the last, and then those of the last, of what is gathered, and of the pointer and the slice by which the last is lent on
   abbrev ps : List Local
-  ps = places (bs ++ moves ∷ cs)
+  ps = locals-of (bs ++ moves ∷ cs)
 
   abbrev ls : List Local
-  ls = places (buffer ∷ []) ++ local G′.mir valueLocal ∷ local (tyRef erased mut (pointee (R .written))) valueLocal ∷ local (sliceTy (tyRef erased mut (pointee (R .written)))) valueLocal ∷ []
+  ls = locals-of (buffer ∷ []) ++ local G′.mir valueLocal ∷ local (tyRef erased mut (pointee (R .written))) valueLocal ∷ local (sliceTy (tyRef erased mut (pointee (R .written)))) valueLocal ∷ []
 
   -- the numbers of the locals that are passed to the inner call
   abbrev passed-on : List ℕ
@@ -77,7 +77,7 @@ module _ (n j : ℕ) (κs : Lfts (suc n)) (bs cs : List Param) (R : RattleType) 
     body = seq (call #gather (copies (suc (length bs) ∷ [])) (place (suc (past ps 1)) [])) (lending ps (pointee (R .written)) 1 (seq (call c (copies passed-on) (place 0 [])) return));
   }
 
-  -- ---- its arguments, and those of the inner call
+  -- its arguments, and those of the inner call
   module _ (a : Denots (rows bs ++ moves .row ∷ after cs buffer)) where
     abbrev es : Denots (rows bs)
     es = early bs cs buffer (moves .row ∷ []) a
@@ -120,7 +120,7 @@ module _ (n j : ℕ) (κs : Lfts (suc n)) (bs cs : List Param) (R : RattleType) 
     abbrev ready : Val → List Cell
     ready u = held ws empty (full (slice x) ∷ full u ∷ full (pointer (x .ptr)) ∷ full (slice x) ∷ [])
 
-    -- ---- the walk
+    -- the walk
     module _ {M : Type 1} (𝓤 : URA M) (H : Heap 𝓤) (A : Atoms 𝓤) (W : Given 𝓤 H A) (mem : Memory → SProp 𝓤) (run : Routine → Fun 𝓤) (𝓣 : Tables 𝓤 H) (c : Name) (qs : Shares (suc n))
         -- the answer's type, and what the inner call and the public one promise: of what a contract names of the arguments, of the answer, and of the last parameter's list at exit
         (answer : Param) (Said : Curried bs (Gathered → Curried cs (List (R .Denot) → answer .row .Denot → List (R .Denot) → Type 0))) (Told : Curried bs (List Move → Curried cs (List (R .Denot) → answer .row .Denot → List (R .Denot) → Type 0))) where

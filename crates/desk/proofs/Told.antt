@@ -1,5 +1,6 @@
--- What a call promises of the numbers that are gathered of a list of moves (`OfNumbers`), the public call promises of the list (`OfList`): what is
--- gathered stands for the list (`Brought` of `moves`), and every call answers alike on a list that stands for another (`TooManyMoves` of `walk`).
+-- What a call promises of the list that is read off the gathered numbers (`listOf`), the public call promises of the list that is lent (`Started`,
+-- `Advanced`, `Opened`, `Followed`): what is gathered stands for the list (`Brought` of `moves`), and every call answers alike on a list that stands
+-- for another (`TooManyMoves` of `walk`).
 use Prim.Native.Nat.{ℕ}
 use mathlib.Core.Path.{sym}
 use mathlib.Core.List.{List}

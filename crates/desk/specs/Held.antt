@@ -6,6 +6,6 @@ use Rattle.walk.specs.declared.Move.{Move}
 use Rattle.walk.specs.Numbers.{table}
 use Rattle.walk.specs.Condition.{noMove}
 
--- its first n rows, as a list. Past the array's end a row is all 0: so many are past the ceiling, and refused for their number
+-- its first n rows, as a list. Past the array's end a row is all 0; so many are more than the ceiling, and then no call looks at a row
 abbrev pub rowsOf : ℕ → List Move → List Move
 rowsOf n rows = table n (λ j. getD rows j noMove)

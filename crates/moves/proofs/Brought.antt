@@ -21,7 +21,7 @@ use Rattle.moves.specs.Gathering.{blank, put, filled, gathered}
 use Rattle.moves.specs.declared.Gathered.{Gathered}
 use Rattle.moves.proofs.Most.{most-all}
 
--- ---- one move written
+-- one move written
 length-put : (w : List ℕ) (j : ℕ) (m : Move) → length (put w j m) ≡ length w
 length-put w j m = length-set (set (set w (3 * j) (m .from)) (3 * j + 1) (m .kind)) (3 * j + 2) (m .to) ∙ length-set (set w (3 * j) (m .from)) (3 * j + 1) (m .kind) ∙ length-set w (3 * j) (m .from)
 
@@ -63,7 +63,7 @@ put-own w j m l = λ d. record { from = from-is d; kind = kind-is d; to = to-is 
     from-is =
         getD-set-other w₂ (3 * j + 2) (3 * j) (m .to) 0 (λ e. absurd (omega arith)) ∙ getD-set-other w₁ (3 * j + 1) (3 * j) (m .kind) 0 (λ e. absurd (omega arith)) ∙ getD-set-same w (3 * j) (m .from) 0 (omega (arith, l))
 
--- ---- the first j moves written
+-- the first j moves written
 length-filled : (j : ℕ) (ms : List Move) → length (filled j ms) ≡ 3 * ceilings .moves
 unfolding filled blank
 length-filled zero ms = length-replicate {A = ℕ} (3 * ceilings .moves) 0
@@ -86,7 +86,7 @@ unfolding table
 all-of [] = refl
 all-of (m ∷ ms) = ap (λ (l : List Move). m ∷ l) (all-of ms)
 
--- ---- what is gathered, as the inner crates read it
+-- what is gathered, as the inner crates read it
 abbrev pub listOf : Gathered → List Move
 listOf g = movesOf (g .count) (g .numbers)
 

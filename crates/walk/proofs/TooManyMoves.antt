@@ -1,5 +1,5 @@
 -- Where more moves are lent than the ceiling, no call looks at one of them: refusals 1 to 3 do not speak of moves, and then 4 is given. So a list
--- of moves that is the one lent where that has room, and is too long where that is too long, is as good for every call.
+-- of moves that is the one lent where that is within the ceiling, and is past the ceiling where that is, is as good for every call.
 use Prim.Native.Nat.{ℕ, _<_, _≤_}
 use mathlib.Core.Path.{_≡_, refl, sym, _∙_, ap}
 use mathlib.Core.Bool.{Bool, true, false}

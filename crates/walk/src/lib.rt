@@ -30,7 +30,7 @@ impl Condition {
 
     pub const MOVES: usize = 256;
 
-    // The numbers of its moves, three each.
+    // Room for the numbers of its moves, three each.
     pub const NUMBERS: usize = 3 * Condition::MOVES;
 }
 

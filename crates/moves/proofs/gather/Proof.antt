@@ -83,12 +83,12 @@ none-written : (ys : List Move) → blankOf ≡ filled 0 ys
 unfolding filled
 none-written ys = refl
 
--- ---- the types of what is passed
+-- the types of what is passed
 abbrev size : Param
 size = datum usize-field usize-laws
 
-abbrev number : Param
-number = datum u16-field u16-laws
+abbrev word : Param
+word = datum u16-field u16-laws
 
 abbrev numbers : Param
 numbers = datum (array-field u16-field 768) (array-laws u16-field u16-laws 768)
@@ -101,7 +101,7 @@ moves κs = shared 0 0 κs T.the-row
 
 -- what `put` is handed beside the array
 abbrev row : List Param
-row = size ∷ number ∷ number ∷ number ∷ []
+row = size ∷ word ∷ word ∷ word ∷ []
 
 abbrev numbers-of : ℕ → Move → Denots (rows row)
 numbers-of j m = (j, (m .from, (m .kind, (m .to, tt))))
@@ -139,7 +139,7 @@ module _ {M : Type 1} (𝓤 : URA M) (H : Heap 𝓤) (A : Atoms 𝓤) (W : Given
     fm : FmC 𝓤 H (W .laws) (𝓣 .C)
     fm = fmOf 𝓤 H (W .laws) 𝓣
 
-    -- what the locals hold as turn j begins: the moves, the array, the number of turns, and j
+    -- what the locals hold as turn j begins: the moves, the array, the word of turns, and j
     abbrev cells : ℕ → List Cell
     cells j = empty ∷ full (slice s) ∷ full (value 768 (filled j ys)) ∷ full (vint w64 turns-of) ∷ full (vint w64 j) ∷ replicate 9 empty
 
@@ -221,7 +221,7 @@ module _ {M : Type 1} (𝓤 : URA M) (H : Heap 𝓤) (A : Atoms 𝓤) (W : Given
         assigns ! (of-opd ! (arg-part ! 0 1 1 refl refl refl refl)) (from ! (stop !)) (fills ! 0 7 refl refl (tt, record { fits = fits })) $
         calls-plain ! fm size (known .bounds n) refl (usize-plain, (usize-plain, tt)) ((refl, fits), ((refl, lit< tt), tt)) 3 refl refl (and-then ! (arg ! 1 7 refl refl) (and-then ! (lit ! tt) (no-more !))) (λ _.
         assigns ! (of-opd ! (lit ! tt)) (from ! (stop !)) (fills ! 0 4 refl refl (tt, record { fits = lit< tt })) $ forgets ! (6 ∷ 7 ∷ []) tt $
-        -- [the locals; what the number of turns owns; what the array owns; the fractured borrow; the token]
+        -- [the locals; what the word of turns owns; what the array owns; the fractured borrow; the token]
         keep ! (0 ∷ 3 ∷ 4 ∷ []) $ first ! $ blocks ! $ loops ! 𝓣 Nearer Nearer-wf (At bs) (turns bs) (record { j = 0; within = zero-le; is = is }))))
 
   gather-meets : (mem : Memory → SProp 𝓤) (run : Routine → Fun 𝓤) → Meets 𝓤 H A gather.signature (WpFn 𝓤 H (𝓣 .C) (𝓣 .Λ) code.function) (gather.spec 𝓤 H A mem run)
