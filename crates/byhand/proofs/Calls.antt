@@ -45,15 +45,15 @@ unsaid [] zs = ftrue
 unsaid (p ∷ ps) zs = fsep ftrue (unsaid ps (zs .1))
 
 module _ {M : Type 1} (𝓤 : URA M) (H : Heap 𝓤) (A : Atoms 𝓤) where
-  module _ (P : Fml) (R : RattleType) {Lasts : Type 0} (lasts : Lasts → Fml) (φ : R .Denot → Lasts → Type 0) (u : Val) where
+  module _ (P : SProp 𝓤) (R : RattleType) {Lasts : Type 0} (lasts : Lasts → Fml) (φ : R .Denot → Lasts → Type 0) (u : Val) where
     abbrev pub Left : R .Denot → SProp 𝓤
-    Left r = sep 𝓤 (sep 𝓤 (sem 𝓤 H A P) (sem 𝓤 H A (R .own r (u ∷ [])))) (ex 𝓤 (λ (zs : Lasts). sep 𝓤 (sem 𝓤 H A (lasts zs)) (fact 𝓤 (φ r zs))))
+    Left r = sep 𝓤 (sep 𝓤 P (sem 𝓤 H A (R .own r (u ∷ [])))) (ex 𝓤 (λ (zs : Lasts). sep 𝓤 (sem 𝓤 H A (lasts zs)) (fact 𝓤 (φ r zs))))
 
     abbrev pub Leaves : SProp 𝓤
     Leaves = H .⇛ (ex 𝓤 Left)
 
   pub record Gives (C : Calls 𝓤 H) (f : Name) (P : Fml) (N : SProp 𝓤) (ps : List Param) (a : Denots (rows ps)) (R : RattleType) {Lasts : Type 0} (lasts : Lasts → Fml) (φ : R .Denot → Lasts → Type 0) : Type 1 where
-    pub meets : ent 𝓤 (sep 𝓤 (sep 𝓤 (sem 𝓤 H A P) (sem 𝓤 H A (owns (rows ps) a (valss ps a)))) N) (C f (vals ps a) (Leaves P R lasts φ))
+    pub meets : ent 𝓤 (sep 𝓤 (sep 𝓤 (sem 𝓤 H A P) (sem 𝓤 H A (owns (rows ps) a (valss ps a)))) N) (C f (vals ps a) (Leaves (sem 𝓤 H A P) R lasts φ))
 
 pub owned-all : {M : Type 1} {𝓤 : URA M} {H : Heap 𝓤} {A : Atoms 𝓤} {K : Type 0} {W : Given 𝓤 H A} {Γ : List (Item 𝓤)} {G : Goal 𝓤 H} → K → (ps : List Param) → Plains (rows ps) → (a : Denots (rows ps)) → shadow (owns (rows ps) a (valss ps a)) → Step K W (‵ (owns (rows ps) a (valss ps a)) ∷ Γ) G Γ G
 owned-all {𝓤 = 𝓤} {H = H} {A = A} {W = W} t ps pl a are = use0 W (‵ (owns (rows ps) a (valss ps a))) (makes-shadow 𝓤 H A (owns (rows ps) a (valss ps a)) (pures (rows ps) pl a (valss ps a)) are)
@@ -64,7 +64,7 @@ module _ {M : Type 1} {𝓤 : URA M} {H : Heap 𝓤} {A : Atoms 𝓤} {K : Type 
       → ((r : p .row .Denot) (zs : Lasts) → φ r zs → Is (p .row) y (p .val y ∷ []) → Seq K W (‵ (Locals E (set us d (full (p .val y)))) ∷ ‵ (p .row .own y (p .val y ∷ [])) ∷ ‵ P ∷ ‵ (lasts zs) ∷ Γ) (runs C Λ E rest q))
       → Seq K W (‵ (fsep P (owns (rows ps) a (valss ps a))) ∷ ‵ (Locals E us) ∷ Γ) (runs C Λ E (seq (call f xs (place d [])) rest) q)
   calls-for t fm p {P} {N} {Lasts} {lasts} {φ} known needed {y} same d e τ os k =
-      calls-from t fm (‵ (fsep P (owns (rows ps) a (valss ps a)))) (vals ps a) (Leaves 𝓤 H A P (p .row) lasts φ)
+      calls-from t fm (‵ (fsep P (owns (rows ps) a (valss ps a)))) (vals ps a) (Leaves 𝓤 H A (sem 𝓤 H A P) (p .row) lasts φ)
       (via 𝓤 _ (qed W (‵ (fsep P (owns (rows ps) a (valss ps a))) ∷ []) ∵ use0 W (raw N) needed $ move ! (1 ∷ 0 ∷ []) $ done !) (known .meets)) os (λ u.
       use1 W (later (some (λ (r : p .row .Denot). (‵ P ⊛ ‵ (p .row .own r (u ∷ []))) ⊛ some (λ (zs : Lasts). ‵ (lasts zs) ⊛ raw (fact 𝓤 (φ r zs)))))) (id⊢ 𝓤 _) $ await t tt $ pick t (λ r. split t $ split t $ move t (2 ∷ []) $
       pick t (λ zs. split t $ move t (1 ∷ []) $ heard t (φ r zs) (λ h. move t (2 ∷ []) $ rewrite t 0 (λ (z : p .row .Denot). ‵ (p .row .own z (u ∷ []))) (same r zs h) refl $

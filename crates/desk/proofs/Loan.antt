@@ -42,6 +42,7 @@ use Rattle.walk.proofs.Move.Laws as Mv′
 use Rattle.byhand.proofs.Arguments.{lft-put, share-put, token-put, token-take, owns-split, owns-join, after, early, middle, late, last, after-args, after-vals, args-with, vals-with, Ends, end, ends, end-is, end-said, end-out, end-in}
 use Rattle.byhand.proofs.LentPart.{Way, lends-rows, rows-back}
 use Rattle.byhand.proofs.Locals.{Cell, empty, full, away, Locals, AllFull, up, copies, contents, arg, args, fills, Blocks, at-blocks, Fit, enters, leaves}
+use Rattle.byhand.proofs.Calls.{Leaves}
 use Rattle.byhand.proofs.Params.{Param, struct, array, number, lent, slice, rows, locals-of, vals, valss, Curried, applied}
 use Rattle.byhand.proofs.Past.{past, Same, fit-past, home-past, holding-past, frame, held, pointer, lending, fills-past, arg-past, lends-on, lends-out-past, takes-back-past}
 
@@ -157,7 +158,7 @@ module _ (N n j : ℕ) (κs : Lfts (suc n)) (bs cs : List Param) (R : RattleType
 
       -- what a call leaves, with the tokens P and the moves ms
       abbrev Left : ℕ → SProp 𝓤 → List Move → Val → SProp 𝓤
-      Left i P ms w = H .⇛ (ex 𝓤 (λ (r : answer .row .Denot). sep 𝓤 (sep 𝓤 P (sem 𝓤 H A (answer .row .own r (w ∷ [])))) (ex 𝓤 (λ (zs : Ends i (List (R .Denot))). sep 𝓤 (sem 𝓤 H A (end-said i last-said zs)) (fact 𝓤 (told ms (x .now) r (end i zs)))))))
+      Left i P ms w = Leaves 𝓤 H A P (answer .row) (end-said i last-said) (λ (r : answer .row .Denot) (zs : Ends i (List (R .Denot))). told ms (x .now) r (end i zs)) w
 
       -- what the public call asks, at the lifetime κ and the moves s
       abbrev Asks : Lft → RefT (List Move) → SProp 𝓤

@@ -43,6 +43,7 @@ use Rattle.moves.proofs.Gathers.{Gather, gathers}
 use Rattle.moves.proofs.gather.Symbol.{name as #gather}
 use Rattle.byhand.proofs.Arguments.{lfts, share, shares, token-out, token-in, owns-split, owns-join, after, early, middle, late, last, after-args, after-vals, args-with, vals-with, Ends, end, end-said}
 use Rattle.byhand.proofs.Locals.{Cell, empty, full, away, Locals, AllFull, up, copies, contents, arg, args, fills, at-blocks, Fit, enters, leaves}
+use Rattle.byhand.proofs.Calls.{Leaves}
 use Rattle.byhand.proofs.Params.{lft, Param, shared, lent, slice, rows, locals-of, vals, valss, Curried, applied, Every, every-at}
 use Rattle.byhand.proofs.Past.{past, Same, fit-past, home-past, holding-past, frame, held, pointer, lending, fills-past, lends-on}
 
@@ -149,7 +150,7 @@ module _ (n j : ℕ) (κs : Lfts (suc n)) (bs cs : List Param) (R : RattleType) 
 
       -- what a call leaves, with the tokens P and the promise Q
       abbrev Left : SProp 𝓤 → (List (R .Denot) → answer .row .Denot → List (R .Denot) → Type 0) → Val → SProp 𝓤
-      Left P Q w = H .⇛ (ex 𝓤 (λ (r : answer .row .Denot). sep 𝓤 (sep 𝓤 P (sem 𝓤 H A (answer .row .own r (w ∷ [])))) (ex 𝓤 (λ (zs : Ends k (List (R .Denot))). sep 𝓤 (sem 𝓤 H A (lasts zs)) (fact 𝓤 (Q (x .now) r (end k zs)))))))
+      Left P Q w = Leaves 𝓤 H A P (answer .row) lasts (λ (r : answer .row .Denot) (zs : Ends k (List (R .Denot))). Q (x .now) r (end k zs)) w
 
       -- what the inner call asks, with what is gathered, at u
       abbrev Asks : Gathered → Val → SProp 𝓤

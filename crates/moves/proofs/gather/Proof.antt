@@ -134,7 +134,7 @@ module _ {M : Type 1} (𝓤 : URA M) (H : Heap 𝓤) (A : Atoms 𝓤) (W : Given
     turns-of = atMost n 256
 
     abbrev Post : Val → SProp 𝓤
-    Post = Leaves 𝓤 H A (token (κs .0) q) G.the-row (unsaid (moves κs ∷ [])) (λ r _. r ≡ gathered ys)
+    Post = Leaves 𝓤 H A (sem 𝓤 H A (token (κs .0) q)) G.the-row (unsaid (moves κs ∷ [])) (λ r _. r ≡ gathered ys)
 
     fm : FmC 𝓤 H (W .laws) (𝓣 .C)
     fm = fmOf 𝓤 H (W .laws) 𝓣
@@ -190,7 +190,7 @@ module _ {M : Type 1} (𝓤 : URA M) (H : Heap 𝓤) (A : Atoms 𝓤) (W : Given
           assigns ! (of-opd ! (arg ! 0 2 refl refl)) (from ! (stop !)) (fills ! 0 6 refl refl (numbers .lawful 𝓤 H A W .typed (filled (x .j) ys) _ (x .is) .0)) $
           calls-plain ! fm (struct G.the-type G′.the-laws) (known .counts n (filled (x .j) ys)) (ap held (at-end over)) G′.the-plain ((refl, fits), (x .is, tt)) 0 refl refl (args ! 1 (7 ∷ 6 ∷ []) refl tt) (λ _.
           -- [the locals; what the result owns; the fractured borrow; the token]
-          leaves ! refl tt $ updating ! $ at-once ! $ show ! (Left 𝓤 H A (token (κs .0) q) G.the-row (unsaid (moves κs ∷ [])) (λ r _. r ≡ gathered ys) _) (gathered ys) $ nothing ! $ move ! (3 ∷ 0 ∷ []) $ fjoin ! $ join ! $ frame ! $
+          leaves ! refl tt $ updating ! $ at-once ! $ show ! (Left 𝓤 H A (sem 𝓤 H A (token (κs .0) q)) G.the-row (unsaid (moves κs ∷ [])) (λ r _. r ≡ gathered ys) _) (gathered ys) $ nothing ! $ move ! (3 ∷ 0 ∷ []) $ fjoin ! $ join ! $ frame ! $
           show ! (λ (zs : Unsaid (moves κs ∷ [])). sep 𝓤 (sem 𝓤 H A (unsaid (moves κs ∷ []) zs)) (fact 𝓤 (gathered ys ≡ gathered ys))) (tt, tt) $ says ! refl $ nothing ! $ nothing ! $ fjoin ! $ keep ! (0 ∷ []) $ done !))
         where
           m : Move
