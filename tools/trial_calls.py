@@ -67,12 +67,12 @@ def spoilt_count(call):
 
 
 def spoilt_question(call):
-    """A few faults, a list of moves past its ceiling and a short area among them."""
+    """A few faults, a list of moves up to its ceiling or past it and a short area among them."""
     q, area = call.q, call.area
     for _ in range(random.choice((0, 1, 1, 1, 2, 3))):
         q = faulty(q)
     if random.random() < 0.1:
-        q = q._replace(moves=q.moves + [(0, 0, 0)] * random.choice((257, 300)))
+        q = q._replace(moves=q.moves + [(0, 0, 0)] * random.choice((256 - len(q.moves), 257, 300)))
     if random.random() < 0.4:
         area = area[:random.randrange(len(area))]
     return call._replace(q=q, area=area)

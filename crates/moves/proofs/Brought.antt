@@ -1,5 +1,6 @@
 -- What is gathered of a list of moves stands for the list: with as many as the ceiling or fewer it says each of them; with more, how many, and that
--- is all a call looks at (`TooManyMoves` of `walk`). Writing the numbers of move j leaves those of the moves before it, so by induction the first j moves stand in the array.
+-- is all a call looks at (`TooManyMoves` of `walk`). Writing the numbers of move j leaves those of the moves before it, so by induction the first j
+-- moves stand in the array.
 use Prim.Native.Nat.{ℕ, zero, suc, _+_, _*_, _<_, _≤_}
 use mathlib.Core.Path.{_≡_, refl, sym, _∙_, ap, subst}
 use mathlib.Core.Bool.{Bool, true, false}

@@ -1,5 +1,5 @@
--- The smaller of two numbers: it is at most either, and it is the first where that is at most the second, and else the
--- second.
+-- The smaller of two numbers: it is at most either; it is the first where that is at most the second, and the second where that is at most the
+-- first.
 use Prim.Native.Nat.{ℕ, _≤_}
 use mathlib.Core.Path.{_≡_, refl}
 use mathlib.Core.Bool.{Bool, true, false, cond}

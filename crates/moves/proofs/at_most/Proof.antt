@@ -1,3 +1,4 @@
+-- `moves::at_most` meets its contract: by the test, either number is the smaller.
 use native.Mathlib.Omega.{arith}
 use borrow.Author.Tests.{lt-ltb, le-ltb}
 use Rattle.moves.proofs.at_most.Statement.{statement}

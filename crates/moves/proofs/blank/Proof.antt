@@ -1,3 +1,4 @@
+-- `moves::blank` meets its contract: an array of zeros.
 use mathlib.Core.Path.{refl}
 use Rattle.moves.specs.Gathering.{blank}
 use Rattle.moves.proofs.blank.Statement.{statement}

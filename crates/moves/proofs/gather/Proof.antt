@@ -36,9 +36,9 @@ use denote.Memory.{shares}
 use denote.Index.{place-is, elem-out, elem-back, looks-slice, shuts-slice}
 use denote.Ref.{RefT}
 use denote.Steps.{nothing}
-use denote.Struct.Field.{u16-field, usize-field, unit-field, array-field, mut-ref-field}
+use denote.Struct.Field.{u16-field, unit-field, mut-ref-field}
 use denote.Struct.Laws as LL
-use denote.Struct.Laws.{u16-laws, usize-laws, unit-laws, array-laws, mut-ref-laws, usize-plain}
+use denote.Struct.Laws.{u16-laws, unit-laws, mut-ref-laws, usize-plain}
 use denote.Triple.Spec.{Meets, tripleOf}
 use denote.Triple.Table.{entered, cited}
 use denote.Triple.Walked.{says}
@@ -54,7 +54,7 @@ use Rattle.moves.proofs.Most.{most-within}
 use Rattle.byhand.proofs.LentWhole.{Words, value, loan, lends, lent-back}
 use Rattle.byhand.proofs.Locals.{Cell, empty, full, Locals, at-local, fills, arg, arg-part, args, Blocks, at-blocks, enters, leaves, forgets}
 use Rattle.byhand.proofs.Calls.{datum, Unsaid, unsaid, Left, Leaves, Gives, owned-all, calls-for, calls-plain}
-use Rattle.byhand.proofs.Params.{Param, struct, shared, slice, rows, valss, laws, meets-by}
+use Rattle.byhand.proofs.Params.{Param, struct, array, number, shared, slice, rows, valss, laws, meets-by}
 use Rattle.byhand.proofs.While.{tests}
 use Rattle.moves.proofs.blank as blank
 use Rattle.moves.proofs.blank.Symbol as blank-def
@@ -84,14 +84,11 @@ unfolding filled
 none-written ys = refl
 
 -- the types of what is passed
-abbrev size : Param
-size = datum usize-field usize-laws
-
 abbrev word : Param
 word = datum u16-field u16-laws
 
 abbrev numbers : Param
-numbers = datum (array-field u16-field 768) (array-laws u16-field u16-laws 768)
+numbers = array word 768
 
 abbrev borrowed : ℕ → Param
 borrowed α = datum (mut-ref-field (record { mir = named 0; lft = α ∷ [] }) (Words 768) tt) (mut-ref-laws (record { mir = named 0; lft = α ∷ [] }) (Words 768) tt)
@@ -101,7 +98,7 @@ moves κs = shared 0 0 κs T.the-row
 
 -- what `put` is handed beside the array
 abbrev row : List Param
-row = size ∷ word ∷ word ∷ word ∷ []
+row = number ∷ word ∷ word ∷ word ∷ []
 
 abbrev numbers-of : ℕ → Move → Denots (rows row)
 numbers-of j m = (j, (m .from, (m .kind, (m .to, tt))))
@@ -112,9 +109,9 @@ token κ q = fsep (flft κ q) ftrue
 -- what the callees promise
 record Callees {M : Type 1} (𝓤 : URA M) (H : Heap 𝓤) (A : Atoms 𝓤) (C : Calls 𝓤 H) : Type 1 where
   pub blanks : Gives 𝓤 H A C blank-def.name ftrue (emp 𝓤) [] tt (numbers .row) (unsaid []) (λ r _. r ≡ blankOf)
-  pub bounds : (n : ℕ) → Gives 𝓤 H A C at-most-def.name ftrue (emp 𝓤) (size ∷ size ∷ []) (n, (256, tt)) (size .row) (unsaid (size ∷ size ∷ [])) (λ r _. r ≡ atMost n 256)
+  pub bounds : (n : ℕ) → Gives 𝓤 H A C at-most-def.name ftrue (emp 𝓤) (number ∷ number ∷ []) (n, (256, tt)) (number .row) (unsaid (number ∷ number ∷ [])) (λ r _. r ≡ atMost n 256)
   pub puts : (l : ℕ) (w : List ℕ) (j : ℕ) (m : Move) (α : ℕ) (δ : GName) → Gives 𝓤 H A C put-def.name (token (α ∷ []) fullShare) (fact 𝓤 (j < 256)) (borrowed α ∷ row) (loan 768 l δ w, numbers-of j m) unit (λ (zs : List ℕ × Unsaid row). fsep (fres δ (Words 768 .coded .code (zs .0))) (unsaid row (zs .1))) (λ _ zs. zs .0 ≡ putOf w j m)
-  pub counts : (n : ℕ) (w : List ℕ) → Gives 𝓤 H A C counted-def.name ftrue (emp 𝓤) (size ∷ numbers ∷ []) (n, (w, tt)) G.the-row (unsaid (size ∷ numbers ∷ [])) (λ r _. r ≡ record { count = n; numbers = w })
+  pub counts : (n : ℕ) (w : List ℕ) → Gives 𝓤 H A C counted-def.name ftrue (emp 𝓤) (number ∷ numbers ∷ []) (n, (w, tt)) G.the-row (unsaid (number ∷ numbers ∷ [])) (λ r _. r ≡ record { count = n; numbers = w })
 
 -- where a turn begins
 record Turn (ys : List Move) : Type 0 where
@@ -219,7 +216,7 @@ module _ {M : Type 1} (𝓤 : URA M) (H : Heap 𝓤) (A : Atoms 𝓤) (W : Given
         calls-plain ! fm numbers (known .blanks) (none-written ys) tt tt 6 refl refl (no-more !) (λ is.
         assigns ! (of-opd ! (arg ! 0 6 refl refl)) (from ! (stop !)) (fills ! 0 2 refl refl (numbers .lawful 𝓤 H A W .typed (filled 0 ys) _ is .0)) $
         assigns ! (of-opd ! (arg-part ! 0 1 1 refl refl refl refl)) (from ! (stop !)) (fills ! 0 7 refl refl (tt, record { fits = fits })) $
-        calls-plain ! fm size (known .bounds n) refl (usize-plain, (usize-plain, tt)) ((refl, fits), ((refl, lit< tt), tt)) 3 refl refl (and-then ! (arg ! 1 7 refl refl) (and-then ! (lit ! tt) (no-more !))) (λ _.
+        calls-plain ! fm number (known .bounds n) refl (usize-plain, (usize-plain, tt)) ((refl, fits), ((refl, lit< tt), tt)) 3 refl refl (and-then ! (arg ! 1 7 refl refl) (and-then ! (lit ! tt) (no-more !))) (λ _.
         assigns ! (of-opd ! (lit ! tt)) (from ! (stop !)) (fills ! 0 4 refl refl (tt, record { fits = lit< tt })) $ forgets ! (6 ∷ 7 ∷ []) tt $
         -- [the locals; what the word of turns owns; what the array owns; the fractured borrow; the token]
         keep ! (0 ∷ 3 ∷ 4 ∷ []) $ first ! $ blocks ! $ loops ! 𝓣 Nearer Nearer-wf (At bs) (turns bs) (record { j = 0; within = zero-le; is = is }))))
@@ -236,7 +233,7 @@ gather-spec 𝓤 H 𝓜 𝓖 𝓡 =
     (tables 𝓤 H 𝓜 𝓡 code.env .C) (tables 𝓤 H 𝓜 𝓡 code.env .Λ) #moves·gather code.function (code.unfolded 𝓤 H 𝓜 𝓡)
     (gather-meets 𝓤 H (𝓖 .A) (givenOf 𝓤 H 𝓜 𝓖) (tablesOf 𝓤 H 𝓜 (tables 𝓤 H 𝓜 𝓡 code.env)) (record {
       blanks = record { meets = cited 𝓤 H (tripleOf 𝓤 H (𝓖 .A) blank.signature (blank.spec 𝓤 H (𝓖 .A) (𝓜 .mem) (𝓡 .run))) 𝓜 𝓡 code.env blank-def.name blank-def.routine code.calls-moves·blank (blank-thm.met 𝓤 H 𝓜 𝓖 𝓡) ((tt, tt, tt, tt, tt), tt) };
-      bounds = λ n. record { meets = cited 𝓤 H (tripleOf 𝓤 H (𝓖 .A) at-most.signature (at-most.spec 𝓤 H (𝓖 .A) (𝓜 .mem) (𝓡 .run))) 𝓜 𝓡 code.env at-most-def.name at-most-def.routine code.calls-moves·at-most (at-most-thm.met 𝓤 H 𝓜 𝓖 𝓡) ((tt, tt, tt, (n, (256, tt)), valss (size ∷ size ∷ []) (n, (256, tt))), tt) };
+      bounds = λ n. record { meets = cited 𝓤 H (tripleOf 𝓤 H (𝓖 .A) at-most.signature (at-most.spec 𝓤 H (𝓖 .A) (𝓜 .mem) (𝓡 .run))) 𝓜 𝓡 code.env at-most-def.name at-most-def.routine code.calls-moves·at-most (at-most-thm.met 𝓤 H 𝓜 𝓖 𝓡) ((tt, tt, tt, (n, (256, tt)), valss (number ∷ number ∷ []) (n, (256, tt))), tt) };
       puts = λ l w j m α δ. record { meets = cited 𝓤 H (tripleOf 𝓤 H (𝓖 .A) put.signature (put.spec 𝓤 H (𝓖 .A) (𝓜 .mem) (𝓡 .run))) 𝓜 𝓡 code.env put-def.name put-def.routine code.calls-moves·put (put-thm.met 𝓤 H 𝓜 𝓖 𝓡) (((α ∷ [], tt), (fullShare, tt), tt, (loan 768 l δ w, numbers-of j m), valss (borrowed α ∷ row) (loan 768 l δ w, numbers-of j m)), tt) };
-      counts = λ n w. record { meets = cited 𝓤 H (tripleOf 𝓤 H (𝓖 .A) counted.signature (counted.spec 𝓤 H (𝓖 .A) (𝓜 .mem) (𝓡 .run))) 𝓜 𝓡 code.env counted-def.name counted-def.routine code.calls-moves·counted (counted-thm.met 𝓤 H 𝓜 𝓖 𝓡) ((tt, tt, tt, (n, (w, tt)), valss (size ∷ numbers ∷ []) (n, (w, tt))), tt) };
+      counts = λ n w. record { meets = cited 𝓤 H (tripleOf 𝓤 H (𝓖 .A) counted.signature (counted.spec 𝓤 H (𝓖 .A) (𝓜 .mem) (𝓡 .run))) 𝓜 𝓡 code.env counted-def.name counted-def.routine code.calls-moves·counted (counted-thm.met 𝓤 H 𝓜 𝓖 𝓡) ((tt, tt, tt, (n, (w, tt)), valss (number ∷ numbers ∷ []) (n, (w, tt))), tt) };
     }) (𝓜 .mem) (𝓡 .run))

@@ -1,22 +1,19 @@
+-- `gathered::prepared` meets its contract: each case says what it said with the count as a plain number.
 use mathlib.Core.Path.{sym, ap}
 use borrow.Author.Needs.{needs}
 use Rattle.rounds.specs.Answers.{saidPrepared}
 use Rattle.desk.proofs.gathered.prepared.Statement.{statement}
 use Rattle.desk.proofs.gathered.prepared.Tie as tie
 
--- src/gathered.rt:23:33
 enum-known-p : tie.Need-enum-known-p
 enum-known-p c = search needs
 
--- src/gathered.rt:24:35
 enum-known-p-2 : tie.Need-enum-known-p-2
 enum-known-p-2 c = search needs
 
--- src/gathered.rt:19:1
 returns : tie.Need-returns
 returns c = sym (ap saidPrepared (c .before .p .given .1))
 
--- src/gathered.rt:19:1
 returns-2 : tie.Need-returns-2
 returns-2 c = sym (ap saidPrepared (c .before .p2 .given .1))
 

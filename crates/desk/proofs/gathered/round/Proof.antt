@@ -1,21 +1,18 @@
+-- `gathered::round` meets its contract: the inner call's promise, with the answer wrapped anew.
 use mathlib.Core.Path.{_∙_}
 use borrow.Author.Needs.{needs}
 use Rattle.desk.proofs.gathered.round.Statement.{statement}
 use Rattle.desk.proofs.gathered.round.Tie as tie
 
--- src/gathered.rt:79:14
 round-requires : tie.Need-round-requires
 round-requires c κs = search needs
 
--- src/gathered.rt:79:5
 prepared-requires : tie.Need-prepared-requires
 prepared-requires c κs = search needs
 
--- src/gathered.rt:59:1
 same-length : tie.Need-same-length
 same-length c = search needs
 
--- src/gathered.rt:59:1
 returns : tie.Need-returns
 returns c = let m = c .before .before .before .round .ensures in record { answers = c .prepared .ensures ∙ m .answers; leaves = m .leaves }
 

@@ -1,3 +1,4 @@
+-- `held::first` meets its contract: the rows that are lent stand for the first so many (`Rows.antt`). That the array has 257 rows is known from its type.
 use mathlib.Core.Path.{_≡_, sym}
 use native.Mathlib.Omega.{arith}
 use lib.ListN.{length}
@@ -9,19 +10,15 @@ use Rattle.desk.proofs.Rows.{lent-rows}
 use Rattle.desk.proofs.held.first.Statement.{statement}
 use Rattle.desk.proofs.held.first.Tie as tie
 
--- src/held.rt:120:9
 at-most-requires : tie.Need-at-most-requires
 at-most-requires c κs = search needs
 
--- src/held.rt:111:5
 first-requires : tie.Need-first-requires
 first-requires c κs = let m = most-within (c .before .before .before .before .before .before .before .args .moves) 257 .1 in omega arith
 
--- src/held.rt:89:1
 same-length : tie.Need-same-length
 same-length c = search needs
 
--- src/held.rt:89:1
 returns : tie.Need-returns
 returns c =
     let A = c .before .before .before .before .before .before .before .before .before .before .args in

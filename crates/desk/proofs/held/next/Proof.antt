@@ -1,3 +1,4 @@
+-- `held::next` meets its contract: the rows that are lent stand for the first so many (`Rows.antt`). That the array has 257 rows is known from its type.
 use mathlib.Core.Path.{_≡_, sym}
 use native.Mathlib.Omega.{arith}
 use lib.ListN.{length}
@@ -9,19 +10,15 @@ use Rattle.desk.proofs.Rows.{lent-rows}
 use Rattle.desk.proofs.held.next.Statement.{statement}
 use Rattle.desk.proofs.held.next.Tie as tie
 
--- src/held.rt:157:9
 at-most-requires : tie.Need-at-most-requires
 at-most-requires c κs = search needs
 
--- src/held.rt:148:5
 next-requires : tie.Need-next-requires
 next-requires c κs = let m = most-within (c .before .before .before .before .before .before .before .args .moves) 257 .1 in omega arith
 
--- src/held.rt:126:1
 same-length : tie.Need-same-length
 same-length c = search needs
 
--- src/held.rt:126:1
 returns : tie.Need-returns
 returns c =
     let A = c .before .before .before .before .before .before .before .before .before .before .args in

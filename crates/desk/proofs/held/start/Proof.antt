@@ -1,3 +1,4 @@
+-- `held::start` meets its contract: the rows that are lent stand for the first so many (`Rows.antt`). That the array has 257 rows is known from its type.
 use mathlib.Core.Path.{_≡_, sym}
 use native.Mathlib.Omega.{arith}
 use lib.ListN.{length}
@@ -9,19 +10,15 @@ use Rattle.desk.proofs.Rows.{lent-rows}
 use Rattle.desk.proofs.held.start.Statement.{statement}
 use Rattle.desk.proofs.held.start.Tie as tie
 
--- src/held.rt:50:9
 at-most-requires : tie.Need-at-most-requires
 at-most-requires c κs = search needs
 
--- src/held.rt:42:5
 start-requires : tie.Need-start-requires
 start-requires c κs = let m = most-within (c .before .before .before .before .before .before .args .moves) 257 .1 in omega arith
 
--- src/held.rt:24:1
 same-length : tie.Need-same-length
 same-length c = search needs
 
--- src/held.rt:24:1
 returns : tie.Need-returns
 returns c =
     let A = c .before .before .before .before .before .before .before .before .before .args in
