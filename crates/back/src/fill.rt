@@ -14,7 +14,7 @@ use tables::steps::Steps;
 use walk::Network;
 
 // A tie with the states alive before it.
-#[derive(Drop)]
+#[derive(Clone, Copy)]
 struct Taken {
     pub tie: Tie,
     pub alive: u32,

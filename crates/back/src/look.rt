@@ -17,7 +17,7 @@ use tables::steps::Steps;
 use walk::Network;
 
 // What is seen of a chain: a place whose tie can be raised, with that tie and the states alive before it.
-#[derive(Drop)]
+#[derive(Clone, Copy)]
 pub enum Seen {
     Unlisted,
     Last,

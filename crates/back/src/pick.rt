@@ -15,7 +15,7 @@ use tables::steps::Steps;
 use walk::Network;
 
 // A place in a run with the states alive before the tie that stands there, or that there is none.
-#[derive(Drop)]
+#[derive(Clone, Copy)]
 enum Place {
     At(usize, u32),
     None,
@@ -59,7 +59,7 @@ fn within(low: usize, first: usize) -> usize
 }
 
 // A tie with the states alive before it, or that there is none.
-#[derive(Drop)]
+#[derive(Clone, Copy)]
 pub enum Usable {
     Tie(Tie, u32),
     None,

@@ -7,6 +7,8 @@
 // answer: 0 and the refusal's number, 1 and the length (Found), 2 (None), 3 (Going), 4 (a chain) or 5 (End); two words for the place or the count;
 // from word 8 on the area, from word 48 on the chain buffer.
 
+#![tactic(auto)]
+
 ghost use Rattle.std.specs.Prelude.{◌≡◌, ◌+◌, ◌≤◌, ◌<◌, length};
 
 use desk::held::Held;
@@ -141,7 +143,7 @@ fn at_most(a: usize, b: usize) -> usize
 }
 
 // What is lent by value, with the number of moves and the count.
-#[derive(Drop)]
+#[derive(Clone, Copy)]
 struct Given {
     network: Network,
     condition: Condition,

@@ -1,5 +1,7 @@
 // Listing: first and next. Refusals 1 to 8 are the tests of `rounds`, 9 and 10 those of `tests`; the chains themselves are found by going `back`.
 
+#![tactic(auto)]
+
 mod tests;
 
 ghost use Rattle.std.specs.Prelude.{true, ◌≡◌, ◌<◌, length, drop};
@@ -23,7 +25,7 @@ use tests::Asked;
 use walk::{Ask, Condition, First, Network, Next, Refusal};
 
 // Where chains end: the mark t, and the states alive there.
-#[derive(Drop)]
+#[derive(Clone, Copy)]
 struct AtEnd {
     pub mark: Mark,
     pub states: u32,

@@ -12,7 +12,7 @@ use tables::steps::Steps;
 use walk::{Ask, Condition, Network, Refusal, Status};
 
 // What the tests leave of first and next: the first refusal that is given, that there is no chain, or the least length of those there are.
-#[derive(Drop)]
+#[derive(Clone, Copy)]
 pub enum Asked {
     Refused(Refusal, usize),
     None,

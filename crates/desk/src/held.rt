@@ -9,7 +9,7 @@ ghost use Rattle.desk.specs.Held.{rows_of};
 use crate::{Prepared, Rounds, lent};
 use walk::{Ask, Condition, First, Move, Network, Next};
 
-#[derive(Drop)]
+#[derive(Clone, Copy)]
 pub struct Held {}
 
 impl Held {

@@ -2,6 +2,8 @@
 // in walk/specs/Calls.antt, for every input; docs/PROMISES.md says it in words. A call brings the moves into one array (`moves::gather`) and hands on
 // to covered code, which calls the inner crates.
 
+#![tactic(auto)]
+
 mod gathered;
 pub mod held;
 mod lent;
@@ -13,13 +15,13 @@ ghost use Rattle.desk.specs.Answers.{said_prepared};
 use walk::{Ask, Condition, First, Move, Network, Next, Refusal, Status};
 
 // How many rounds were done. It comes from the caller, so any count can stand in it.
-#[derive(Drop)]
+#[derive(Clone, Copy)]
 pub struct Rounds {
     pub done: usize,
 }
 
 // The answer of start and of a round.
-#[derive(Drop)]
+#[derive(Clone, Copy)]
 pub enum Prepared {
     After(Rounds, Status),
     Refused(Refusal, usize),

@@ -1,5 +1,7 @@
 // The moves that are lent as a list of records, brought into one array of numbers, which is what the inner crates work on.
 
+#![tactic(auto)]
+
 ghost use Rattle.std.specs.Prelude.{◌≡◌, ◌<◌};
 ghost use Rattle.walk.specs.Ceilings.{ceilings};
 ghost use Rattle.moves.specs.Gathering.{at_most, blank, put, gathered};
@@ -8,7 +10,7 @@ use walk::{Condition, Move};
 
 // How many moves are lent, and the numbers of those that there is room for: of move j the from state at 3j, the kind at 3j + 1, the to state at
 // 3j + 2.
-#[derive(Drop)]
+#[derive(Clone, Copy)]
 pub struct Gathered {
     pub count: usize,
     pub numbers: [u16; Condition::NUMBERS],

@@ -1,6 +1,8 @@
 // Preparing by rounds: start and round. Refusals 1 to 7 are the tests of `tables`, refusals 1 to 8 those of `tests`, and a round over a right area is
 // `advance::advance`.
 
+#![tactic(auto)]
+
 pub mod advance;
 pub mod area;
 pub mod status;
@@ -22,7 +24,7 @@ use tables::tests::Verdict;
 use walk::{Ask, Condition, Network, Refusal, Status};
 
 // The answer of start and of a round: how many rounds were done, with the status after them.
-#[derive(Drop)]
+#[derive(Clone, Copy)]
 pub enum Prepared {
     After(usize, Status),
     Refused(Refusal, usize),

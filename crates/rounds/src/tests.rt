@@ -14,7 +14,7 @@ use tables::tests::Verdict;
 use walk::{Ask, Condition, Network, Refusal, Status};
 
 // What the tests leave of a call: the first refusal that is given, or the status of the right area.
-#[derive(Drop)]
+#[derive(Clone, Copy)]
 pub enum Stand {
     Refused(Refusal, usize),
     At(Status),

@@ -1,6 +1,8 @@
 // Rows of the area: the words of one mark, one for each state. They are begun, fetched, written and compared here; `offers` lowers a row by what
 // the ties into its mark offer, from the states that are `alive`.
 
+#![tactic(auto)]
+
 pub mod alive;
 pub mod offers;
 

@@ -7,38 +7,38 @@ ghost use Rattle.walk.specs.Ceilings.{ceilings};
 ghost use Rattle.walk.specs.Numbers.{has};
 ghost use Rattle.tables.specs.Entries.{mark_entry, tie_entry, kind_entry, state_entry, Entered};
 
-#[derive(Drop)]
+#[derive(Clone, Copy)]
 pub struct Mark(usize);
 
-#[derive(Drop)]
+#[derive(Clone, Copy)]
 pub struct Tie(usize);
 
-#[derive(Drop)]
+#[derive(Clone, Copy)]
 pub struct Kind(usize);
 
-#[derive(Drop)]
+#[derive(Clone, Copy)]
 pub struct State(usize);
 
 // What an entry answers: the number, or that it is not below the bound.
-#[derive(Drop)]
+#[derive(Clone, Copy)]
 pub enum MarkEntry {
     Is(Mark),
     Not,
 }
 
-#[derive(Drop)]
+#[derive(Clone, Copy)]
 pub enum TieEntry {
     Is(Tie),
     Not,
 }
 
-#[derive(Drop)]
+#[derive(Clone, Copy)]
 pub enum KindEntry {
     Is(Kind),
     Not,
 }
 
-#[derive(Drop)]
+#[derive(Clone, Copy)]
 pub enum StateEntry {
     Is(State),
     Not,

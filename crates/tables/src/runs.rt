@@ -23,7 +23,7 @@ pub fn end(to: &[u16], ties: usize, marks: usize, v: Mark, at: usize) -> usize
 }
 
 // A run: its first tie, and the end past its last.
-#[derive(Drop)]
+#[derive(Clone, Copy)]
 pub struct Run {
     pub first: usize,
     pub end: usize,

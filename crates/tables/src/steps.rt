@@ -13,7 +13,7 @@ use crate::numbers::{Kind, State};
 use walk::{Condition, Network};
 
 // The table has a word for each kind and state.
-#[derive(Drop)]
+#[derive(Clone, Copy)]
 pub struct Steps {}
 
 impl Steps {

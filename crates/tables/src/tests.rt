@@ -12,7 +12,7 @@ use crate::numbers::wide;
 use walk::{Ask, Condition, Network, Refusal};
 
 // What the tests answer.
-#[derive(Drop)]
+#[derive(Clone, Copy)]
 pub enum Verdict {
     Passed,
     Refused(Refusal, usize),

@@ -1,11 +1,13 @@
 // The types that every crate and every definition speaks of: what is lent by value, the ceilings, and the answers.
 // What a call answers with them, and what it leaves in its buffers, stands in specs/.
 
+#![tactic(auto)]
+
 ghost use Rattle.std.specs.Prelude.{◌≡◌};
 ghost use Rattle.walk.specs.Ceilings.{ceilings};
 
 // A network's numbers of marks and kinds; its ties are lent as three columns.
-#[derive(Drop)]
+#[derive(Clone, Copy)]
 pub struct Network {
     pub marks: usize,
     pub kinds: usize,
@@ -20,7 +22,7 @@ impl Network {
 }
 
 // A condition's number of states, its start states and its accepting states; its moves are lent as a list.
-#[derive(Drop)]
+#[derive(Clone, Copy)]
 pub struct Condition {
     pub states: usize,
     pub start: u32,
@@ -36,7 +38,7 @@ impl Condition {
     pub const NUMBERS: usize = 3 * Condition::MOVES;
 }
 
-#[derive(Drop)]
+#[derive(Clone, Copy)]
 pub struct Move {
     pub from: u16,
     pub kind: u16,
@@ -44,7 +46,7 @@ pub struct Move {
 }
 
 // The area is lent as 16-bit words, one for each mark and state.
-#[derive(Drop)]
+#[derive(Clone, Copy)]
 pub struct Area {}
 
 impl Area {
@@ -54,13 +56,13 @@ impl Area {
 }
 
 // The marks s and t of a question.
-#[derive(Drop)]
+#[derive(Clone, Copy)]
 pub struct Ask {
     pub from: usize,
     pub to: usize,
 }
 
-#[derive(Drop)]
+#[derive(Clone, Copy)]
 pub enum Status {
     Found(usize),
     None,
@@ -68,7 +70,7 @@ pub enum Status {
 }
 
 // Why a call is refused: a row of the table of refusals.
-#[derive(Drop)]
+#[derive(Clone, Copy)]
 pub enum Refusal {
     Sizes,
     BadTie,
@@ -84,7 +86,7 @@ pub enum Refusal {
 }
 
 // The answer of first: the earliest chain stands in the buffer, or there is none.
-#[derive(Drop)]
+#[derive(Clone, Copy)]
 pub enum First {
     Chain,
     None,
@@ -92,7 +94,7 @@ pub enum First {
 }
 
 // The answer of next: the chain after it stands in the buffer, or it was the last.
-#[derive(Drop)]
+#[derive(Clone, Copy)]
 pub enum Next {
     Chain,
     End,
@@ -100,7 +102,7 @@ pub enum Next {
 }
 
 // The ceilings side by side, to be held to the numbers that the definitions name.
-#[derive(Drop)]
+#[derive(Clone, Copy)]
 pub struct Ceilings {
     pub marks: usize,
     pub kinds: usize,

@@ -42,7 +42,7 @@ returns c =
     let L = c.before.before.before.before.before.before in
     (cut_at _ _ _ _ _ L.before.before.requires.0 L.loop.invariant.1 L.loop.invariant.2 (inr (omega (arith, to_is c.before.before.before))), L.loop.invariant.0)
 
-add-e : tie.Need-overflow-add-e invariant-loop decreases-loop
+add-e : tie.Need-overflow_add-e invariant-loop decreases-loop
 add-e c = omega arith
 
 loop-less : tie.Need-loop-smaller invariant-loop decreases-loop

@@ -21,10 +21,10 @@ decreases-loop to ties marks v low₀ high₀ low high = high - low
 loop-holds : tie.Need-loop-init invariant-loop decreases-loop
 loop-holds c = search rules
 
-sub-e : tie.Need-overflow-sub-e invariant-loop decreases-loop
+sub-e : tie.Need-overflow_sub-e invariant-loop decreases-loop
 sub-e c = search rules
 
-add-e : tie.Need-overflow-add-e invariant-loop decreases-loop
+add-e : tie.Need-overflow_add-e invariant-loop decreases-loop
 add-e c = search rules
 
 tested-requires : tie.Need-tested-requires invariant-loop decreases-loop
@@ -43,7 +43,7 @@ to_is c = c.enters.ensures.is ∙ ap (λ (e : ℕ). get_or c.before.before.befor
 index-requires : tie.Need-index-requires invariant-loop decreases-loop
 index-requires c κs = search rules
 
-add_low : tie.Need-overflow-add-low invariant-loop decreases-loop
+add_low : tie.Need-overflow_add-low invariant-loop decreases-loop
 add_low c = let h = c.before.before.before.before.before.before.before.requires.1 in omega arith
 
 loop-less : tie.Need-loop-smaller invariant-loop decreases-loop

@@ -4,7 +4,7 @@ use Rattle.tables.proofs.SetLaws.{lowest-is}
 use Rattle.tables.proofs.sets.lowest.Statement.{statement}
 use Rattle.tables.proofs.sets.lowest.Tie as tie
 
-cast-result : tie.Need-overflow-cast-result
+cast-result : tie.Need-overflow_cast-result
 cast-result c = omega (arith, (lowest-is c.args.set c.requires c.ranges.set.fits).below)
 
 returns : tie.Need-returns

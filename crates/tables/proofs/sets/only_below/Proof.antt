@@ -28,10 +28,10 @@ none_above n s =
 returns : tie.Need-returns
 returns c = all-below _ _ c.if1.true c.before.ranges.set.fits
 
-cast-result : tie.Need-overflow-cast-result
+cast-result : tie.Need-overflow_cast-result
 cast-result c = search rules
 
-shr-result : tie.Need-overflow-shr-result
+shr-result : tie.Need-overflow_shr-result
 shr-result c = search rules
 
 returns-2 : tie.Need-returns-2

@@ -4,10 +4,10 @@ use Rattle.tables.proofs.SetLaws.{one_shl}
 use Rattle.tables.proofs.sets.with.Statement.{statement}
 use Rattle.tables.proofs.sets.with.Tie as tie
 
-cast-result : tie.Need-overflow-cast-result
+cast-result : tie.Need-overflow_cast-result
 cast-result c = search rules
 
-shl-result : tie.Need-overflow-shl-result
+shl-result : tie.Need-overflow_shl-result
 shl-result c = search rules
 
 returns : tie.Need-returns

@@ -21,7 +21,7 @@ in_range : (c : tie.In-loop invariant-loop decreases-loop)
     MoveIn S.numbers.now S.kinds S.condition.states c.before.loop.j
 in_range c = move_in _ _ _ refl c.before.before.requires.2 _ c.loop-test.true
 
-mul_at : tie.Need-overflow-mul-at invariant-loop decreases-loop
+mul_at : tie.Need-overflow_mul-at invariant-loop decreases-loop
 mul_at c = omega (arith, (in_range c).few)
 
 fetched-requires : tie.Need-fetched-requires invariant-loop decreases-loop
@@ -42,7 +42,7 @@ fetched-requires-3 c κs = let x = in_range c.before.before.before.before.before
 put-requires : tie.Need-put-requires invariant-loop decreases-loop
 put-requires c κs = search rules
 
-add-j : tie.Need-overflow-add-j invariant-loop decreases-loop
+add-j : tie.Need-overflow_add-j invariant-loop decreases-loop
 add-j c = omega arith
 
 loop-less : tie.Need-loop-smaller invariant-loop decreases-loop

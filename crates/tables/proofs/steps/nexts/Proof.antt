@@ -29,7 +29,7 @@ loop-holds c = (omega arith, sym (div-one _), next-none c.args.table.now _ c.arg
 lowest-requires : tie.Need-lowest-requires invariant-loop decreases-loop
 lowest-requires c κs = search rules
 
-add-n : tie.Need-overflow-add-n invariant-loop decreases-loop
+add-n : tie.Need-overflow_add-n invariant-loop decreases-loop
 add-n c = omega (arith, (W c).below)
 
 tested-requires : tie.Need-tested-requires invariant-loop decreases-loop
@@ -38,13 +38,13 @@ tested-requires c κs = c.before.before.before.requires.2 _ (W c).stands
 index-requires : tie.Need-index-requires invariant-loop decreases-loop
 index-requires c κs = search rules
 
-mul-all : tie.Need-overflow-mul-all invariant-loop decreases-loop
+mul-all : tie.Need-overflow_mul-all invariant-loop decreases-loop
 mul-all c = omega arith
 
 index-requires-2 : tie.Need-index-requires-2 invariant-loop decreases-loop
 index-requires-2 c κs = search rules
 
-add-all : tie.Need-overflow-add-all invariant-loop decreases-loop
+add-all : tie.Need-overflow_add-all invariant-loop decreases-loop
 add-all c = omega arith
 
 mul-all-2 : tie.Need-overflow-mul-all-2 invariant-loop decreases-loop

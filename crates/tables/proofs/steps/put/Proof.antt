@@ -9,13 +9,13 @@ use Rattle.tables.proofs.steps.put.Tie as tie
 index-requires : tie.Need-index-requires
 index-requires c κs = search rules
 
-mul_at : tie.Need-overflow-mul-at
+mul_at : tie.Need-overflow_mul-at
 mul_at c = search rules
 
 index-requires-2 : tie.Need-index-requires-2
 index-requires-2 c κs = search rules
 
-add_at : tie.Need-overflow-add-at
+add_at : tie.Need-overflow_add-at
 add_at c = search rules
 
 mul-with : tie.Need-overflow-mul-with

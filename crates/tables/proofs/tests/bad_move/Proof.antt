@@ -26,7 +26,7 @@ Law s =
 law : (s : tie.Start) → Law s
 law s = let a = s.args in move_law a.condition a.moves a.numbers.now a.kinds a.j s.requires.0
 
-mul_at : tie.Need-overflow-mul-at
+mul_at : tie.Need-overflow_mul-at
 mul_at c = search rules
 
 wide-requires : tie.Need-wide-requires

@@ -24,7 +24,7 @@ returns-3 c numbers =
     let a = c.before.before.before.args in
     is-given (λ e. let S = (states_law a.condition a.moves numbers).0 e in omega arith)
 
-only-below-requires : tie.Need-only-below-requires
+only-below-requires : tie.Need-only_below-requires
 only-below-requires c κs = search rules
 
 returns-4 : tie.Need-returns-4
@@ -32,7 +32,7 @@ returns-4 c numbers =
     let a = c.before.before.before.before.before.args in
     is-given (λ e. false≢true (sym (not-true _ c.if4.true) ∙ c.before.only_below.ensures ∙ ((states_law a.condition a.moves numbers).0 e).3))
 
-only-below-requires-2 : tie.Need-only-below-requires-2
+only-below-requires-2 : tie.Need-only_below-requires-2
 only-below-requires-2 c κs = search rules
 
 returns-5 : tie.Need-returns-5

@@ -27,7 +27,7 @@ mul-only-below c = search rules
 shared-slice-read-only-below : tie.Need-shared-slice-read-only-below
 shared-slice-read-only-below c = search rules
 
-only-below-requires : tie.Need-only-below-requires
+only-below-requires : tie.Need-only_below-requires
 only-below-requires c κs = search rules
 
 returns-3 : tie.Need-returns-3

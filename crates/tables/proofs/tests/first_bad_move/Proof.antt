@@ -19,14 +19,14 @@ decreases-loop kinds condition moves numbers j₀ j = moves - j
 loop-holds : tie.Need-loop-init invariant-loop decreases-loop
 loop-holds c = (search rules, none-at-first _)
 
-bad-move-requires : tie.Need-bad-move-requires invariant-loop decreases-loop
+bad-move-requires : tie.Need-bad_move-requires invariant-loop decreases-loop
 bad-move-requires c κs = search rules
 
 returns : tie.Need-returns invariant-loop decreases-loop
 returns c =
     found_first _ _ _ c.before.before.before.loop.invariant.1 c.before.before.loop-test.true (sym c.before.bad-move.ensures ∙ c.if1.true)
 
-add-j : tie.Need-overflow-add-j invariant-loop decreases-loop
+add-j : tie.Need-overflow_add-j invariant-loop decreases-loop
 add-j c = search rules
 
 loop-less : tie.Need-loop-smaller invariant-loop decreases-loop

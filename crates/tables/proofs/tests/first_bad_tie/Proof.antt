@@ -17,14 +17,14 @@ decreases-loop network ties from to kinds e₀ e = ties - e
 loop-holds : tie.Need-loop-init invariant-loop decreases-loop
 loop-holds c = (search rules, none-at-first _)
 
-bad-tie-requires : tie.Need-bad-tie-requires invariant-loop decreases-loop
+bad-tie-requires : tie.Need-bad_tie-requires invariant-loop decreases-loop
 bad-tie-requires c κs = search rules
 
 returns : tie.Need-returns invariant-loop decreases-loop
 returns c =
     found_first _ _ _ c.before.before.before.loop.invariant.1 c.before.before.loop-test.true (sym c.before.bad-tie.ensures ∙ c.if1.true)
 
-add-e : tie.Need-overflow-add-e invariant-loop decreases-loop
+add-e : tie.Need-overflow_add-e invariant-loop decreases-loop
 add-e c = search rules
 
 loop-less : tie.Need-loop-smaller invariant-loop decreases-loop

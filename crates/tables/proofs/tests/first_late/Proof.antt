@@ -26,7 +26,7 @@ returns : tie.Need-returns invariant-loop decreases-loop
 returns c n f k =
     found_first _ _ _ (c.before.before.before.loop.invariant.1 n f k) c.before.before.loop-test.true (sym (c.before.late.ensures n f k) ∙ c.if1.true)
 
-add-e : tie.Need-overflow-add-e invariant-loop decreases-loop
+add-e : tie.Need-overflow_add-e invariant-loop decreases-loop
 add-e c = search rules
 
 loop-less : tie.Need-loop-smaller invariant-loop decreases-loop

@@ -17,7 +17,7 @@ mul-result c = search rules
 shared-slice-read-result : tie.Need-shared-slice-read-result
 shared-slice-read-result c = search rules
 
-sub-result : tie.Need-overflow-sub-result
+sub-result : tie.Need-overflow_sub-result
 sub-result c = search rules
 
 mul-result-2 : tie.Need-overflow-mul-result-2

@@ -62,7 +62,7 @@ from-4 : (c : tie.Else3) → From (s3 c) rows_4
 unfolding tie_order
 from-4 c = none_answers _ _ _ _ _ (from-3 c.before) refl (c.before.before.first-late.ensures _ _ _) c.if3.false
 
-states-said : (c : tie.After-bad-states) → (bad_condition (asked (s3 c.before))).given ≡ c.bad-states.result
+states-said : (c : tie.After-bad_states) → (bad_condition (asked (s3 c.before))).given ≡ c.bad-states.result
 unfolding bad_condition
 states-said c = let a = (s3 c.before).args in sym (c.bad-states.ensures a.numbers.now)
 
@@ -86,7 +86,7 @@ states-in c =
     let (_, b, m, _, _) = (states_law (s4 c).args.condition (s4 c).args.moves []).0 (sym (c.before.bad-states.ensures []) ∙ c.if4.false) in
     (b, m)
 
-bad-sizes-requires : tie.Need-bad-sizes-requires
+bad-sizes-requires : tie.Need-bad_sizes-requires
 bad-sizes-requires c κs = search rules
 
 returns : tie.Need-returns
@@ -107,7 +107,7 @@ returns-3 : tie.Need-returns-3
 unfolding tie_order
 returns-3 c = first-answers _ _ _ _ _ (from-3 c.before) refl (c.before.before.first-late.ensures _ _ _) c.if3.true
 
-bad-states-requires : tie.Need-bad-states-requires
+bad-states-requires : tie.Need-bad_states-requires
 bad-states-requires c κs = search rules
 
 returns-4 : tie.Need-returns-4
@@ -121,7 +121,7 @@ returns-5 : tie.Need-returns-5
 unfolding bad_move
 returns-5 c = first-answers _ _ _ _ _ (from-5 c.before.before) (sym (length-table _ _)) c.before.first-bad-move.ensures c.if5.true
 
-bad-ends-requires : tie.Need-bad-ends-requires
+bad-ends-requires : tie.Need-bad_ends-requires
 bad-ends-requires c κs = search rules
 
 returns-6 : tie.Need-returns-6

@@ -12,7 +12,7 @@ use Rattle.tables.proofs.numbers.Kind.tested.Tie as tie
 checked-requires : tie.Need-checked-requires
 checked-requires c κs = search rules
 
-enum-known-k : tie.Need-enum-known-k
+enum-known-k : tie.Need-enum_known-k
 enum-known-k c = search rules
 
 enum_told : tie.Need-enum-told

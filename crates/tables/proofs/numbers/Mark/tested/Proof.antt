@@ -12,7 +12,7 @@ use Rattle.tables.proofs.numbers.Mark.tested.Tie as tie
 checked-requires : tie.Need-checked-requires
 checked-requires c κs = search rules
 
-enum-known-m : tie.Need-enum-known-m
+enum-known-m : tie.Need-enum_known-m
 enum-known-m c = search rules
 
 enum_told : tie.Need-enum-told

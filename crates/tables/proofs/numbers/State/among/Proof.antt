@@ -4,10 +4,10 @@ use Rattle.walk.specs.Numbers.{has}
 use Rattle.tables.proofs.numbers.State.among.Statement.{statement}
 use Rattle.tables.proofs.numbers.State.among.Tie as tie
 
-cast-result : tie.Need-overflow-cast-result
+cast-result : tie.Need-overflow_cast-result
 cast-result c = search rules
 
-shr-result : tie.Need-overflow-shr-result
+shr-result : tie.Need-overflow_shr-result
 shr-result c = search rules
 
 returns : tie.Need-returns

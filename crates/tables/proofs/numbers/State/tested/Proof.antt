@@ -12,7 +12,7 @@ use Rattle.tables.proofs.numbers.State.tested.Tie as tie
 checked-requires : tie.Need-checked-requires
 checked-requires c κs = search rules
 
-enum-known-q : tie.Need-enum-known-q
+enum-known-q : tie.Need-enum_known-q
 enum-known-q c = search rules
 
 enum_told : tie.Need-enum-told

@@ -12,7 +12,7 @@ use Rattle.tables.proofs.numbers.Tie.tested.Tie as tie
 checked-requires : tie.Need-checked-requires
 checked-requires c κs = search rules
 
-enum-known-e : tie.Need-enum-known-e
+enum-known-e : tie.Need-enum_known-e
 enum-known-e c = search rules
 
 enum_told : tie.Need-enum-told
