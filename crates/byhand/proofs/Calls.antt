@@ -12,7 +12,7 @@ use Prim.Native.Nat.{ℕ}
 use mathlib.Core.List.{List, [], ◌∷◌}
 use lib.ListN.{get_or, set}
 use seplogic.Ra.Ura.{Ura}
-use mir.Syntax.{Name, Ty, Body, Opd as Operand, place, seq, call}
+use mir.Syntax.{Callee, Ty, Body, Opd as Operand, place, seq, call}
 use mir.Val.{Val}
 use base.Logic.{SProp, ent, sep, ex, emp, id⊢, via}
 use base.Fml.{Fml, ftrue, fsep}
@@ -54,13 +54,13 @@ module _ {M : Type 1} {𝓤 : Ura M} (𝓛 : Logic 𝓤) where
     abbrev pub Leaves : SProp 𝓤
     Leaves = H.⇛ (ex 𝓤 Left)
 
-  pub record Gives (C : Calls 𝓤 H) (f : Name) (P : Fml) (N : SProp 𝓤) (ps : List Param) (a : Denots (rows ps)) (R : RattleType) {Lasts : Type 0} (lasts : Lasts → Fml) (φ : R.Denot → Lasts → Type 0) : Type 1 where
+  pub record Gives (C : Calls 𝓤 H) (f : Callee) (P : Fml) (N : SProp 𝓤) (ps : List Param) (a : Denots (rows ps)) (R : RattleType) {Lasts : Type 0} (lasts : Lasts → Fml) (φ : R.Denot → Lasts → Type 0) : Type 1 where
     pub meets : ent 𝓤 (sep 𝓤 (sep 𝓤 (sem 𝓛 P) (sem 𝓛 (owns (rows ps) a (valss ps a)))) N) (C f (vals ps a) (Leaves (sem 𝓛 P) R lasts φ))
 
 pub owned_all : {M : Type 1} {𝓤 : Ura M} {𝓛 : Logic 𝓤} {K : Type 0} {Γ : List (Item 𝓤)} {G : Goal 𝓤 𝓛.H} → K → (ps : List Param) → Plains (rows ps) → (a : Denots (rows ps)) → shadow (owns (rows ps) a (valss ps a)) → Step K 𝓛 (‵ (owns (rows ps) a (valss ps a)) ∷ Γ) G Γ G
 owned_all {𝓤 = 𝓤} {𝓛 = 𝓛} t ps pl a are = use0 𝓛 (‵ (owns (rows ps) a (valss ps a))) (makes_shadow 𝓛 (owns (rows ps) a (valss ps a)) (pures (rows ps) pl a (valss ps a)) are)
 
-module _ {M : Type 1} {𝓤 : Ura M} {𝓛 : Logic 𝓤} {K : Type 0} {Γ : List (Item 𝓤)} {E : Env 𝓤 𝓛.H} {us : List Cell} {C : Calls 𝓤 𝓛.H} {Λ : Loops 𝓤 𝓛.H} {q : Post 𝓤 𝓛.H} {f : Name} {xs : List Operand} {rest : Body} {ps : List Param} {a : Denots (rows ps)} where
+module _ {M : Type 1} {𝓤 : Ura M} {𝓛 : Logic 𝓤} {K : Type 0} {Γ : List (Item 𝓤)} {E : Env 𝓤 𝓛.H} {us : List Cell} {C : Calls 𝓤 𝓛.H} {Λ : Loops 𝓤 𝓛.H} {q : Post 𝓤 𝓛.H} {f : Callee} {xs : List Operand} {rest : Body} {ps : List Param} {a : Denots (rows ps)} where
   open 𝓛 use {H}
 
   pub calls_for : K → FmC 𝓤 H 𝓛.laws C → (p : Param) {P : Fml} {N : SProp 𝓤} {Lasts : Type 0} {lasts : Lasts → Fml} {φ : p.row.Denot → Lasts → Type 0} → Gives 𝓛 C f P N ps a p.row lasts φ → ent 𝓤 (emp 𝓤) N → {y : p.row.Denot} → ((r : p.row.Denot) (zs : Lasts) → φ r zs → r ≡ y)

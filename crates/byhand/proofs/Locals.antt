@@ -17,7 +17,7 @@ use mathlib.Core.List.{List, [], ◌∷◌}
 use lib.Dec.{T}
 use lib.ListN.{get_or, set}
 use seplogic.Ra.Ura.{Ura}
-use seplogic.Ra.TreeShare.{full_share}
+use base.Fraction.{full_share}
 use mir.Syntax.{Sym, Ty, ty_struct, Tys, ty_enum, ttnil, place, field, Opd as Operand, copy, Local, local, Fn, return}
 use mir.Fields.{get_v}
 use mir.Val.{Val, vunit, vstruct, Vals, WT, has_ty}

@@ -2,7 +2,7 @@
 --     Param                                   a parameter's type, of one machine value, with its laws, and what a contract names of an argument: the argument itself, or of a slice its list
 --     struct, enum, array, number, shared, lent    those that there are, shared being `&[R]` and lent `&mut [R]`
 --     lft                                     the lifetime numbered j of n + 1
---     slice                                   a slice's machine value
+--     slice, mut_slice                        a slice's machine value, of a `&[R]` and of a `&mut [R]`
 --     rows, locals_of, vals, valss               the types of a list of parameters; their locals; the machine values of arguments, in a row, and as a list for each
 --     Curried, applied                        a function of what a contract names of the arguments, one by one, and its value at given arguments
 --     Every, every_at                         a law that relates two such, for all arguments and at given ones
@@ -28,7 +28,7 @@ use denote.Enum.Enum.{Few}
 use denote.Enum.Laws as EL
 use denote.Memory.{lone}
 use denote.Plain.{uint_Tells, uint_Lawful}
-use denote.Ref.{Bor}
+use denote.Ref.{Bor, MutBor}
 use denote.Signature.{Signature, types_at}
 use denote.Slice.{slice_val, ShrSlice, MutSlice, shr_slice_Tells, mut_slice_Tells, shr_slice_Lawful, mut_slice_Lawful}
 use denote.Steps.{said}
@@ -74,6 +74,9 @@ number = record { row = usize; val = vint w64; tells = uint_Tells w64; lawful = 
 abbrev pub slice : {X : Type 0} → Bor (List X) → Val
 slice x = slice_val x.ref_ptr (length x.now)
 
+abbrev pub mut_slice : {X : Type 0} → MutBor (List X) → Val
+mut_slice x = slice_val x.ref_ptr (length x.now)
+
 -- `&[R]` and `&mut [R]`, at the lifetime numbered j of n + 1
 abbrev pub shared : (n j : ℕ) → Lfts (suc n) → RattleType → Param
 shared n j κs R = record {
@@ -88,7 +91,7 @@ shared n j κs R = record {
 abbrev pub lent : (n j : ℕ) → Lfts (suc n) → RattleType → Param
 lent n j κs R = record {
   row = MutSlice (named j) (lft n j κs) R;
-  val = slice;
+  val = mut_slice;
   tells = mut_slice_Tells (named j) (lft n j κs) R;
   lawful = λ 𝓛. mut_slice_Lawful 𝓛 (named j) (lft n j κs) R;
   Named = List R.Denot;

@@ -12,7 +12,7 @@ use mathlib.Core.List.{List, [], ◌∷◌, ◌++◌}
 use lib.Dec.{T}
 use lib.ListN.{get_or, set}
 use seplogic.Ra.Ura.{Ura}
-use seplogic.Ra.TreeShare.{full_share}
+use base.Fraction.{full_share}
 use mir.Syntax.{Lifetime, erased, mut, Ty, ty_ref, ty_enum, ttnil, Local, local, value_local, Body, place, copy, field, deref, seq, assign, addr_of, aggregate}
 use mir.Val.{Val, vptr, WT, has_ty}
 use base.Fml.{fat, froom}
