@@ -1,0 +1,20 @@
+-- The loop's invariant: the sets of the marks before v are filled.
+use Rattle.std.proofs.Common.{ap, arith, drop, length, length-set, refl, take, ◌+◌, ◌-◌, ◌∙◌, ◌≡◌}
+use Rattle.rows.specs.Rows.{row}
+use Rattle.rows.proofs.AliveLaws.{alive-more}
+use Rattle.rows.proofs.RowLaws.{row_is, row-length}
+use Rattle.rows.proofs.alive.fill.Goals as goal
+
+pub loop-v-preserved : goal.loop-v-preserved
+loop-v-preserved c =
+    let I = c.loop-v.invariant in
+    let S = c.args in
+    let at = c.place-at.result in
+    let part : take (at + S.states - at) (drop at S.area.now) ≡ row S.area.now S.states c.loop-v.v =
+    row_is _ _ _ _ _ (rw c.tested.ensures.is at c.place-at.ensures.0) refl in
+    let size : length (take (at + S.states - at) (drop at S.area.now)) ≡ S.states =
+    ap length part ∙ row-length S.area.now _ _ _ c.loop-v-test.true c.requires.2 in (
+      omega arith,
+      simp length-set I.1,
+      alive-more c.loop-v.live _ _ _ _ _ S.lo S.hi _ I.1 c.loop-v-test.true c.requires.0 c.requires.2 part (rw size c.of_row.ensures) I.2,
+    )

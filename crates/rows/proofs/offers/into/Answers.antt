@@ -1,0 +1,15 @@
+-- The loop's invariant: the row is lowered by the offers along the ties from the first on, below e.
+use Rattle.std.proofs.Common.{arith}
+use Rattle.rows.specs.Offers.{OfTie}
+use Rattle.rows.proofs.Lowering.{between_more, lowered_at}
+use Rattle.rows.proofs.offers.into.Goals as goal
+
+pub loop-e-preserved : goal.loop-e-preserved
+loop-e-preserved c =
+    let a = c.args in
+    let offers = OfTie a.table.now a.sources.now a.live.now a.area.now a.states a.from.now a.sets.now in (
+      omega arith,
+      omega arith,
+      between_more _ _ offers _ _ _ c.loop-e.invariant.0 c.loop-e.invariant.2
+          (lowered_at offers c.tested.ensures.is c.of_tie.ensures),
+    )
