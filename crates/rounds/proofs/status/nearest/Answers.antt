@@ -1,5 +1,5 @@
 -- The loop's invariant: `best` is the least word of an accepting state passed, or r + 1.
-use Rattle.std.proofs.Common.{arith, refl, ◌-◌, ◌≡◌}
+use Rattle.std.proofs.Common.{arith, refl, ◌≡◌}
 use Rattle.rounds.proofs.Standing.{near_none, near_more, near_end}
 use Rattle.rounds.proofs.status.nearest.Goals as goal
 

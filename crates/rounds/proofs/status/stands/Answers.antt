@@ -1,5 +1,5 @@
 -- The loop's invariant: no word passed is r.
-use Rattle.std.proofs.Common.{arith, false, refl, sym, ◌-◌}
+use Rattle.std.proofs.Common.{arith, refl, sym}
 use borrow.Author.Tests.{eq-eqb, ne_eqb}
 use Rattle.walk.proofs.Numbers.{any_below_of}
 use Rattle.walk.specs.Numbers.{any_below}

@@ -1,0 +1,23 @@
+-- `rounds::turn` meets its contract: with the status Found or None the area stays; else it is advanced, and the status of what then stands is reported.
+use Rattle.std.proofs.Common.{arith, suc, sym, take, ◌+◌, ◌∙◌, ◌≡◌}
+use native.Mathlib.Numerals.{add-one}
+use Rattle.walk.specs.Question.{pairs, right}
+use Rattle.walk.specs.Answers.{question}
+use Rattle.rounds.proofs.Standing.{standing-is}
+use Rattle.rounds.proofs.Meeting.{turned-stays, turned-goes, in_front}
+use Rattle.rounds.proofs.turn.Goals as goal
+
+pub returns-then-not-going : goal.returns-then-not-going
+returns-then-not-going c m tab acc = turned-stays _ _ _ _ (c.requires.4 m tab acc) (sym c.going.ensures ∙ c.if-not-going.true)
+
+pub returns : goal.returns
+returns c m tab acc =
+    let A = c.args in
+    let P = c.requires in
+    let D = question A.network A.condition A.ask A.from.now A.to.now A.kinds.now m in
+    let A' = c.advance.new.area in
+    let k = c.advance.auto.area in
+    let w = c.advance.ensures m tab acc in
+    let right' : take (pairs D) A' ≡ right D (A.done + 1) = rw add-one (in_front D (suc A.done) A.area.now A' w) in
+    turned-goes D A.area.now A.done A.found (P.4 m tab acc) c.status.result A' (sym c.going.ensures ∙ c.if-not-going.false)
+    (c.status.ensures ∙ standing-is D (A.done + 1) A' right' (omega (arith, P.0.size.room)) c.tested.result.0 c.tested.ensures.is P.1) w
