@@ -1,6 +1,6 @@
 -- The loop's invariant: what `fill` makes of the places still to fill and the words from there on is what it makes of the whole. The words from n on
 -- are never looked at, so they stay.
-use Rattle.std.proofs.Common.{drop, length, ◌-◌, ◌<◌, ◌≡◌, ◌≤◌}
+use Rattle.std.proofs.Common.{drop, length, ◌<◌, ◌≡◌, ◌≤◌}
 use Rattle.walk.specs.Answers.{network_of}
 use Rattle.walk.proofs.Back.{fill}
 use Rattle.back.specs.Over.{over_tie}

@@ -1,5 +1,5 @@
 -- The loop's invariant: the chain has been walked back to the place i, and all that is kept is that of the rest from there on.
-use Rattle.std.proofs.Common.{length, ◌-◌, ◌<◌, ◌≤◌}
+use Rattle.std.proofs.Common.{length, ◌<◌, ◌≤◌}
 use Rattle.walk.specs.Answers.{network_of}
 use Rattle.back.specs.Over.{over_tie}
 use Rattle.back.proofs.LookLaws.{Looked}

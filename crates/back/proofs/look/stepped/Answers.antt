@@ -1,61 +1,50 @@
 -- A word that names no tie, a tie into another mark and a tie before which no state is alive stop; any other tie goes on.
-use Rattle.std.proofs.Common.{ap, ap₂, arith, get_or, rules, sym, ℕ, ◌<◌, ◌∙◌, ◌≡◌}
+use Rattle.std.proofs.Common.{ap, arith, get_or, sym, ℕ, ◌<◌, ◌∙◌, ◌≡◌}
+use mathlib.Core.Path.{ap₂}
 use Rattle.tables.proofs.Entries.{entry_in, entry_out}
 use Rattle.back.specs.Over.{over, over_tie}
 use Rattle.back.proofs.LookLaws.{stops_out, stops_off, stops_dead, steps_on}
 use Rattle.back.proofs.look.stepped.Goals as goal
+use Rattle.back.proofs.look.stepped.Goals.{In-Is, After-index-in-Is, After-over-before}
 
--- ?? place-typed
--- where the function started
-abbrev start : tie.After-known-told → tie.Start
-start c = c.before.before.before.before.before.before.before.before
-
--- ?? place-typed
 -- the word names a tie
-entered : (c : tie.After-known-told) → let A = (start c).args in (A.word < A.ties) × (c.before.e.given.0.0.0 ≡ A.word)
-entered c = entry_in _ _ _ (sym c.before.before.before.checked.ensures ∙ c.before.e.given.1)
+entered : (c : In-Is) → (c.args.word < c.args.ties) × (c.in-Is.e.0 ≡ c.args.word)
+entered c = entry_in _ _ _ (sym c.in-Is.ensures)
 
--- ?? place-typed
 -- the mark that it enters
-enters_is : (c : tie.After-index2) → let t = c.before.before.before.before in c.before.index.result ≡ get_or (start t).args.to.now (start t).args.word 0
-enters_is c =
-    let t = c.before.before.before.before in
-    c.before.index.ensures ∙ c.before.before.enters.ensures.is ∙ ap (λ (x : ℕ). get_or (start t).args.to.now x 0) (entered t).1
+enters_is : (c : After-index-in-Is) → c.in-Is.e.0 ≡ c.args.word → c.index.result ≡ get_or c.args.to.now c.args.word 0
+enters_is c e = c.index.ensures ∙ c.enters.ensures.is ∙ ap (λ (x : ℕ). get_or c.args.to.now x 0) e
 
--- ?? place-typed
 -- what is alive before it
-before-is : (c : tie.After-over) → let A = (start c.before.before.before.before.before.before.before).args in c.over.result
-    ≡ over_tie A.table.now A.area.now A.states A.from.now A.kinds.now A.word A.i A.alive
-before-is c =
-    let t = c.before.before.before.before.before.before.before in
-    let A = (start t).args in
-    let (_, e) = entered t in
-    c.over.ensures
+before_is : (c : After-over-before) → c.in-Is.e.0 ≡ c.args.word
+    → let A = c.args in c.over-before.result ≡ over_tie A.table.now A.area.now A.states A.from.now A.kinds.now A.word A.i A.alive
+before_is c e =
+    let A = c.args in
+    c.over-before.ensures
     ∙ ap₂ (λ (u k : ℕ). over A.table.now A.area.now A.states u k A.i A.alive)
-    (c.before.before.before.before.before.before.leaves.ensures.is ∙ ap (λ (x : ℕ). get_or A.from.now x 0) e)
-    (c.before.kinds.ensures ∙ ap (λ (x : ℕ). get_or A.kinds.now x 0) e)
-
--- ?? enum-told
-enum_told : tie.Need-enum-told
-enum_told c = search rules
-
--- ?? enum-known-e
-enum-known-e : tie.Need-enum-known-e
-enum-known-e c = search rules
+    (c.leaves-u.ensures.is ∙ ap (λ (x : ℕ). get_or A.from.now x 0) e)
+    (c.kinds.ensures ∙ ap (λ (x : ℕ). get_or A.kinds.now x 0) e)
 
 pub returns-then-index : goal.returns-then-index
-returns-then-index c = stops_off _ _ _ _ _ _ (λ h. c.if-index.true (enters_is c.before ∙ h ∙ sym c.index-in-Is.ensures))
+returns-then-index c =
+    let at = goal.at.returns-then-index c in
+    let (_, e) = entered at.In-Is in
+    stops_off _ _ _ _ _ _ (λ h. c.if-index.true (enters_is at.After-index-in-Is e ∙ h ∙ sym c.index-in-Is.ensures))
 
 pub returns-then-before-eq0 : goal.returns-then-before-eq0
-returns-then-before-eq0 c = stops_dead _ _ _ _ _ _ _ (before-is c.before) c.if-before-eq0.true
+returns-then-before-eq0 c =
+    let at = goal.at.returns-then-before-eq0 c in
+    let (_, e) = entered at.In-Is in
+    stops_dead _ _ _ _ _ _ _ (before_is at.After-over-before e) c.if-before-eq0.true
 
 pub returns-in-Not : goal.returns-in-Not
 returns-in-Not c =
-    let h = entry_out c.args.word c.args.ties (sym c.checked.ensures ∙ c.enum_told-1.given.1) in
+    let h = entry_out c.args.word c.args.ties (sym c.in-Not.ensures) in
     stops_out _ _ _ _ _ _ (omega (arith, c.requires.0.columns.froms))
 
 pub returns-else-before-eq0 : goal.returns-else-before-eq0
 returns-else-before-eq0 c =
-    let (l, e) = entered t in
-    steps_on _ _ _ _ _ _ _ _ (omega (arith, (start t).requires.0.columns.froms)) (sym (enters_is x.before) ∙ c.if-index.false ∙ c.index-in-Is.ensures) e
-    (before-is c.before) c.if-before-eq0.false
+    let at = goal.at.returns-else-before-eq0 c in
+    let (l, e) = entered at.In-Is in
+    steps_on _ _ _ _ _ _ _ _ (omega (arith, c.requires.0.columns.froms)) (sym (enters_is at.After-index-in-Is e) ∙ c.if-index.false ∙ c.index-in-Is.ensures) e
+    (before_is at.After-over-before e) c.if-before-eq0.false

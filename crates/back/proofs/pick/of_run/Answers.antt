@@ -1,25 +1,16 @@
 -- The loop's invariant: before no tie from low on, up to place j, a state is alive.
-use Rattle.std.proofs.Common.{◌-◌, ◌≡◌}
-use Rattle.back.specs.Over.{over_tie}
 use Rattle.back.proofs.PickLaws.{passed_none, passed-more, passed_here, passed-all}
 use Rattle.back.proofs.pick.of_run.Goals as goal
-
--- ?? place-typed
-before-is : (c : tie.After-over invariant-loop decreases-loop)
-    → let L = c.before.before.before.before in
-    let S = L.before.before.before.before.args in
-    c.over.result ≡ over_tie S.table.now S.area.now S.states S.from.now S.kinds.now L.loop.j S.i S.alive
-before-is c = rw c.before.before.fetched.ensures.is at c.over.ensures
 
 pub loop-j-init : goal.loop-j-init
 loop-j-init c = passed_none _ _ _ _
 
 pub returns-then-before-ne0 : goal.returns-then-before-ne0
 returns-then-before-ne0 c =
-    passed_here _ _ _ _ _ _ _ c.loop-j.invariant (before-is c.before) c.if-before-ne0.true c.loop-j-test.true
+    passed_here _ _ _ _ _ _ _ c.loop-j.invariant (rw c.fetched-u.ensures.is at c.over-before.ensures) c.if-before-ne0.true c.loop-j-test.true
 
 pub loop-j-preserved : goal.loop-j-preserved
-loop-j-preserved c = passed-more _ _ _ _ _ _ c.loop-j.invariant (before-is c.before) c.if-before-ne0.false
+loop-j-preserved c = passed-more _ _ _ _ _ _ c.loop-j.invariant (rw c.fetched-u.ensures.is at c.over-before.ensures) c.if-before-ne0.false
 
 pub returns : goal.returns
 returns c = passed-all _ _ _ _ _ _ c.loop-j.invariant c.loop-j-test.false

@@ -1,18 +1,10 @@
 -- The part that is lent is the row of u, so what is alive there are the states with the word i.
-use Rattle.std.proofs.Common.{refl, rules, sym, ◌∙◌}
+use Rattle.std.proofs.Common.{refl, sym, ◌∙◌}
 use borrow.Author.Tests.{ltb-true}
 use Rattle.walk.proofs.Numbers.{and_in}
 use Rattle.rows.proofs.RowLaws.{row_is}
 use Rattle.back.proofs.OverLaws.{over-is}
 use Rattle.back.proofs.step.over.Goals as goal
-
--- ?? slice-bounds-of-row-start
-part-of-row-start : tie.Need-slice-bounds-of-row-start
-part-of-row-start c = search rules
-
--- ?? slice-bounds-of-row-end
-part-of-row-end : tie.Need-slice-bounds-of-row-end
-part-of-row-end c = search rules
 
 pub leading-requires : goal.leading-requires
 leading-requires c =
