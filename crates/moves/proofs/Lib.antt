@@ -1,2 +1,3 @@
 pub mod Brought
+pub mod Gathers
 pub mod Most

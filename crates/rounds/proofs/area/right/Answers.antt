@@ -21,7 +21,7 @@ into-requires c =
       c.opening-row.ensures.size,
       P.0.size,
       P.0.columns,
-      alive_living c.fill.new.live A.area.now A.network.marks A.condition.states 0 A.r (let h = P.2 in omega arith) c.fill.ensures,
+      alive_living c.fill.new.live A.area.now A.network.marks A.condition.states 0 _ (let h = P.2 in omega arith) c.fill.ensures,
       P.0.leads.narrow,
     )
 

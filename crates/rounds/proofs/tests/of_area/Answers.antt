@@ -2,13 +2,14 @@
 -- is that of the definition.
 use Rattle.std.proofs.Common.{arith, sym, ◌∙◌}
 use mathlib.Core.Bool.{false≢true}
+use Rattle.std.proofs.Math.Nat.{mul-le-mul_left}
 use Rattle.walk.specs.Answers.{question}
 use Rattle.rounds.proofs.Refusing.{wrong_given, wrong_passed}
 use Rattle.rounds.proofs.Standing.{standing-is}
 use Rattle.rounds.proofs.tests.of_area.Goals as goal
 
 pub returns-then-done-pairs : goal.returns-then-done-pairs
-returns-then-done-pairs c m tab acc = wrong_given _ _ _ (λ h _. (let e = c.pairs.ensures.0 in let t = c.if-done-pairs.true in omega arith))
+returns-then-done-pairs c m tab acc = wrong_given _ _ _ (λ h _. (let e = c.pairs.ensures.0 in let t = c.if-done-pairs.true in omega (arith, mul-le-mul_left c.args.network.marks c.requires.0.size.narrow)))
 
 pub returns-then-not-right : goal.returns-then-not-right
 returns-then-not-right c m tab acc = wrong_given _ _ _ (λ h e. false≢true (sym (c.if-not-right.true) ∙ (c.right.ensures m tab acc).1 e))

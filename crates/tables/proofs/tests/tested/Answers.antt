@@ -1,6 +1,6 @@
 -- `tables::tests::tested` meets its contract: each test that passes leaves the answer to the rows after its own, and the first that does not gives
 -- its own row's answer. What a test asks for is what an earlier one has left.
-use Rattle.std.proofs.Common.{ℕ, ◌≤◌, ◌≡◌, refl, sym, ap, ◌∙◌, Bool, List, [], false, length}
+use Rattle.std.proofs.Common.{arith, ℕ, ◌≤◌, ◌≡◌, refl, sym, ap, ◌∙◌, Bool, List, [], false, length}
 use borrow.Author.Tests.{lt-ltb, le-ltb}
 use Rattle.walk.specs.Ceilings.{ceilings}
 use Rattle.walk.specs.declared.Condition as lent
@@ -88,7 +88,7 @@ returns-then-late-ties c =
     let D = question c.args.network c.args.condition c.args.ask c.args.from.now c.args.to.now c.args.kinds.now (moves_of c.args.moves c.args.numbers.now) in
     let w = c.args.area.now in
     let x2 = from_2 D w c.bad_sizes.ensures c.if-bad_sizes.false in
-    let x3 = from_3 D w x2 c.first_bad_tie-tie.ensures c.if-tie-ties.false in
+    let x3 = from_3 D w x2 c.first_bad_tie-tie.ensures (omega arith) in
     first-answers _ _ _ _ _ x3 refl (c.first_late-late.ensures _ _ _) c.if-late-ties.true
 
 pub returns-then-bad_states : goal.returns-then-bad_states
