@@ -1,4 +1,4 @@
--- The parameters that the public calls have in common. Assumes nothing.
+-- The parameters that the public calls have in common, as a walk by hand hands them to the laws of `Relay.antt` and `Loan.antt`. Assumes nothing.
 use Prim.Native.Nat.{ℕ, suc}
 use mathlib.Core.List.{List, [], ◌∷◌}
 use contract.Lifetimes.{Lfts}

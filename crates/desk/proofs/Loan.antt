@@ -1,6 +1,6 @@
 -- A call over an array of moves that the caller holds, which lends its first rows to a public call:
 --     fn X(before, rows: [Move; N], count: usize, between, last: &mut [R]) -> Answer    requires count ≤ length rows  { Y(before, &rows[..count], between, last) }
--- proved once, over the lists of its parameters, `before` being bs and `between` cs, and over the public call.
+-- proved once, over the lists of its parameters, `before` being bs and `between` cs, and over the public call. For a walk by hand: the calls here need none.
 --     params                                  its parameters
 --     lent_args, lent_vals                    what the public call is passed, at the lifetime κ and the moves s, and its machine values
 --     lends                                   what the public call promises of the moves lent, such a call promises of the first rows

@@ -1,6 +1,6 @@
 -- A public call that has its moves gathered and passes what is gathered on, with its other parameters, to an inner call:
 --     fn X(before, moves: &[Move], between, last: &mut [R]) -> Answer { X_in(before, moves::gather(moves), between, last) }
--- proved once, over the lists of its parameters, `before` being bs and `between` cs, and over the inner call.
+-- proved once, over the lists of its parameters, `before` being bs and `between` cs, and over the inner call. For a walk by hand: the calls here need none.
 --     params                    its parameters
 --     inner_args, inner_vals    what the inner call is passed, and its machine values
 --     passes_on                 what the inner call promises of what is gathered, such a call promises of the moves

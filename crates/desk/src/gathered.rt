@@ -1,4 +1,4 @@
-// The calls on what is gathered of the moves: covered code between the desk and the inner crates.
+// The calls on what is gathered of the moves, between the desk and the inner crates.
 
 ghost use Rattle.std.specs.Prelude.{◌≡◌};
 ghost use Rattle.walk.specs.Calls.{start, round, first, next};

@@ -1,4 +1,4 @@
-// Rows of an array are lent as a list of moves for a public call. Each is a loan and a call, with parameters that covered code can hand over.
+// Rows of an array are lent as a list of moves for a public call. Each is a loan and a call.
 
 ghost use Rattle.std.specs.Prelude.{◌≤◌, length, take};
 ghost use Rattle.walk.specs.Calls.{start, round, first, next};

@@ -1,6 +1,6 @@
 // The public desk: start, round, first and next, in the form that the rule book names. Each has one promise, an equation with the call's definition
 // in walk/specs/Calls.antt, for every input; docs/PROMISES.md says it in words. A call brings the moves into one array (`moves::gather`) and hands on
-// to covered code, which calls the inner crates.
+// to `gathered`, which calls the inner crates.
 
 #![tactic(auto)]
 

@@ -1,4 +1,4 @@
--- A step for a walk that calls `gather`: what every public call that takes `&[Move]` does first.
+-- A step for a walk by hand that calls `gather`: what every public call that takes `&[Move]` does first. The calls here need no walk.
 --     Gather     `gather`'s contract
 --     gathers    [κ's token; what the slice owns; …] at a call of `gather` goes on with [what the result owns; κ's token; what the slice owns; …], at a result that is what is gathered of the list, with its machine value's type
 -- Assumes `Logic`, and that the callee meets its contract.

@@ -1,4 +1,4 @@
--- The loop's invariant: no word passed differs.
+-- `rows::differs` meets its contract: a word that differs is found, or one more is passed.
 use Rattle.std.proofs.Common.{arith, get_or, refl, sym, ◌≡◌}
 use borrow.Author.Tests.{eq-eqb, ne_eqb}
 use Rattle.walk.proofs.Numbers.{any_below_of}

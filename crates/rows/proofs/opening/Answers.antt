@@ -1,4 +1,4 @@
--- The loop's invariant: the first q words are 0 at the start states and 65535 elsewhere.
+-- `rows::opening` meets its contract: the row of another mark than s is blank, and the row of s holds its start states.
 use Rattle.std.proofs.Common.{arith, ◌≡◌}
 use Rattle.rows.proofs.RowLaws.{row-blank, row-started}
 use Rattle.rows.proofs.opening.Goals as goal

@@ -1,4 +1,4 @@
--- The loop's invariant: before no tie from low on, up to place j, a state is alive.
+-- `pick::of_run` meets its contract: a tie before which a state is alive is the smallest, if none was passed; else one more is passed.
 use Rattle.back.proofs.PickLaws.{passed_none, passed-more, passed_here, passed-all}
 use Rattle.back.proofs.pick.of_run.Goals as goal
 

@@ -1,5 +1,5 @@
--- `rounds::advance::advance` meets its contract. The invariant: the cursor stands where the ties into mark v begin, and the rows before v are those of
--- the right area for r + 1, whatever question asks and whatever moves the table stands for.
+-- The loop's invariant: the cursor stands where the ties into mark v begin, and the rows before v are those of the right area for r + 1, whatever
+-- question asks and whatever moves the table stands for.
 use Rattle.std.proofs.Common.{length, ◌-◌, ◌≡◌, ◌≤◌}
 use Rattle.walk.specs.declared.Ask.{Ask}
 use Rattle.tables.specs.Runs.{Cut}

@@ -1,5 +1,5 @@
--- `rounds::area::right` meets its contract. The invariant: the cursor stands where the ties into mark v begin, and the marks before v pass the local
--- test, whatever moves the table stands for.
+-- The loop's invariant: the cursor stands where the ties into mark v begin, and the marks before v pass the local test, whatever moves the table
+-- stands for.
 use Rattle.std.proofs.Common.{◌-◌, ◌≡◌, ◌≤◌}
 use Rattle.walk.specs.declared.Ask.{Ask}
 use Rattle.tables.specs.Runs.{Cut}

@@ -1,4 +1,4 @@
--- The loop's invariant: `best` is the least word of an accepting state passed, or r + 1.
+-- `status::nearest` meets its contract: `lesser` takes one word more, and with all words taken `best` is the nearest.
 use Rattle.std.proofs.Common.{arith, refl, ◌≡◌}
 use Rattle.rounds.proofs.Standing.{near_none, near_more, near_end}
 use Rattle.rounds.proofs.status.nearest.Goals as goal

@@ -1,4 +1,4 @@
--- The loop's invariant: no word passed is r.
+-- `status::stands` meets its contract: the word that is r is found, or one more is passed.
 use Rattle.std.proofs.Common.{arith, refl, sym}
 use borrow.Author.Tests.{eq-eqb, ne_eqb}
 use Rattle.walk.proofs.Numbers.{any_below_of}

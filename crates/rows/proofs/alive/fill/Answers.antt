@@ -1,4 +1,4 @@
--- The loop's invariant: the sets of the marks before v are filled.
+-- `alive::fill` meets its contract: the part that is lent is the row of mark v, so its set is that of mark v.
 use Rattle.std.proofs.Common.{ap, arith, drop, length, length-set, refl, take, ◌+◌, ◌-◌, ◌∙◌, ◌≡◌}
 use Rattle.rows.specs.Rows.{row}
 use Rattle.rows.proofs.AliveLaws.{alive-more}

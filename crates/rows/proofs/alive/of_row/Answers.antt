@@ -1,4 +1,4 @@
--- The loop's invariant: the set holds the states passed whose word lies in the range.
+-- `alive::of_row` meets its contract: `join` adds the state at hand if its word lies in the range.
 use Rattle.std.proofs.Common.{arith}
 use Rattle.rows.proofs.AliveLaws.{alive-row-none, alive-row-more}
 use Rattle.rows.proofs.alive.of_row.Goals as goal

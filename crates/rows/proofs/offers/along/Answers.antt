@@ -1,4 +1,4 @@
--- The loop's invariant: the row is lowered by the offers under the kinds of the tie below n, and `rest` holds those from n on, shifted down.
+-- `offers::along` meets its contract: a turn lowers the row by the offers under one kind more.
 use Rattle.std.proofs.Common.{arith, bit_and, get_or, sym, ℕ, ◌∙◌}
 use Rattle.tables.proofs.SetLaws.{walk}
 use Rattle.rows.specs.Offers.{ByKind}

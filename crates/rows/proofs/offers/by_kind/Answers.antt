@@ -1,4 +1,4 @@
--- The loop's invariant: the row is lowered by the offers of the states of the set below n, and `rest` holds those from n on, shifted down.
+-- `offers::by_kind` meets its contract: a turn lowers the row by the offers of one state more.
 use Rattle.std.proofs.Common.{arith, get_or, sym, ℕ, ◌*◌, ◌+◌, ◌∙◌, ◌≡◌}
 use Rattle.tables.proofs.SetLaws.{walk}
 use Rattle.rows.specs.Offers.{One, Each}

@@ -1,4 +1,4 @@
--- The loop's invariant: the row is lowered by the offers along the ties from the first on, below e.
+-- `offers::into` meets its contract: a turn lowers the row by the offers along one tie more.
 use Rattle.std.proofs.Common.{arith}
 use Rattle.rows.specs.Offers.{OfTie}
 use Rattle.rows.proofs.Lowering.{between_more, lowered_at}

@@ -1,4 +1,4 @@
--- The loop's invariant: the row is lowered by the states of the set below n, and `rest` holds those from n on, shifted down.
+-- `offers::lower_all` meets its contract: a turn lowers the word of one state more.
 use Rattle.std.proofs.Common.{arith, sym, ◌∙◌}
 use Rattle.tables.proofs.SetLaws.{walk}
 use Rattle.rows.specs.Offers.{One}

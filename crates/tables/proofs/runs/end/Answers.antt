@@ -1,3 +1,4 @@
+-- `runs::end` meets its contract: where a tie enters a later mark, the ties are cut.
 use Rattle.std.proofs.Common.{arith, inr, ap, ◌∙◌, ℕ, get_or}
 use Rattle.tables.proofs.RunLaws.{cut_at}
 use Rattle.tables.proofs.runs.end.Goals as goal

@@ -1,3 +1,4 @@
+-- `runs::first_from` meets its contract: the to column rises, so what holds of the tie in the middle holds of all on one side of it.
 use Rattle.std.proofs.Common.{arith, ap, ◌∙◌, ℕ, get_or, ◌+◌, ◌-◌, ◌/◌}
 use native.Mathlib.Nat.{lt_of_le_of_lt, le_trans}
 use Rattle.tables.proofs.RunLaws.{rises-le}

@@ -1,3 +1,4 @@
+-- `steps::fill` meets its contract: every move is in range, so each of its numbers is let in, and `put` brings in one move more.
 use Rattle.std.proofs.Common.{arith, refl, ◌≡◌}
 use Rattle.tables.proofs.StepLaws.{up-to-none, up-to-more, up-to-all, move_in}
 use Rattle.tables.proofs.steps.fill.Goals as goal

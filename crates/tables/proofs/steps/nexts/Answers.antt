@@ -1,3 +1,4 @@
+-- `steps::nexts` meets its contract: a turn adds what follows under one kind more.
 use Rattle.std.proofs.Common.{arith, ap, sym, ◌∙◌, ◌≡◌, ℕ, get_or, ◌+◌, ◌*◌, bit_or}
 use native.Mathlib.Nat.{div-one}
 use Rattle.walk.specs.Numbers.{has}

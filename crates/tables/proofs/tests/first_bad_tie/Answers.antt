@@ -1,3 +1,4 @@
+-- `tests::first_bad_tie` meets its contract: the first bad tie is found, or none is bad.
 use Rattle.std.proofs.Common.{sym, ◌∙◌}
 use Rattle.tables.proofs.Searches.{found_first, found_none}
 use Rattle.tables.proofs.tests.first_bad_tie.Goals as goal

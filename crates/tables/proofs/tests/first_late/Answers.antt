@@ -1,3 +1,4 @@
+-- `tests::first_late` meets its contract: the first tie out of order is found, or none is.
 use Rattle.std.proofs.Common.{sym, ◌∙◌}
 use Rattle.tables.proofs.Searches.{found_first, found_none}
 use Rattle.tables.proofs.tests.first_late.Goals as goal
