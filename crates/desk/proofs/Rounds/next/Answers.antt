@@ -9,4 +9,5 @@ pub returns : goal.returns
 returns c =
     let A = c.args in
     followed A.self A.network A.condition A.ask A.from.now A.to.now A.kinds.now A.moves.now A.area.now A.chain.now c.next.result c.next.new.chain
-    (subst (λ (g : Gathered). Followed A.self A.network A.condition A.ask A.from.now A.to.now A.kinds.now (list_of g) A.area.now A.chain.now c.next.result c.next.new.chain) c.gather.ensures c.next.ensures)
+    (subst (λ (g : Gathered). Followed A.self A.network A.condition A.ask A.from.now A.to.now A.kinds.now (list_of g) A.area.now A.chain.now c.next.result c.next.new.chain)
+    c.gather.ensures c.next.ensures)

@@ -9,4 +9,5 @@ pub returns : goal.returns
 returns c =
     let A = c.args in
     advanced A.self A.network A.condition A.ask A.from.now A.to.now A.kinds.now A.moves.now A.area.now c.round.result c.round.new.area
-    (subst (λ (g : Gathered). Advanced A.self A.network A.condition A.ask A.from.now A.to.now A.kinds.now (list_of g) A.area.now c.round.result c.round.new.area) c.gather.ensures c.round.ensures)
+    (subst (λ (g : Gathered). Advanced A.self A.network A.condition A.ask A.from.now A.to.now A.kinds.now (list_of g) A.area.now c.round.result c.round.new.area)
+    c.gather.ensures c.round.ensures)

@@ -9,4 +9,5 @@ pub returns : goal.returns
 returns c =
     let A = c.args in
     started A.network A.condition A.ask A.from.now A.to.now A.kinds.now A.moves.now A.area.now c.start.result c.start.new.area
-    (subst (λ (g : Gathered). Started A.network A.condition A.ask A.from.now A.to.now A.kinds.now (list_of g) A.area.now c.start.result c.start.new.area) c.gather.ensures c.start.ensures)
+    (subst (λ (g : Gathered). Started A.network A.condition A.ask A.from.now A.to.now A.kinds.now (list_of g) A.area.now c.start.result c.start.new.area)
+    c.gather.ensures c.start.ensures)

@@ -8,8 +8,13 @@ use Rattle.rounds.proofs.Refusing.{wrong_given, wrong_passed}
 use Rattle.rounds.proofs.Standing.{standing-is}
 use Rattle.rounds.proofs.tests.of_area.Goals as goal
 
+-- (with a bound on Q: what is refused here is right for any product that is at least V×Q)
 pub returns-then-done-pairs : goal.returns-then-done-pairs
-returns-then-done-pairs c m tab acc = wrong_given _ _ _ (λ h _. (let e = c.pairs.ensures.0 in let t = c.if-done-pairs.true in omega (arith, mul-le-mul_left c.args.network.marks c.requires.0.size.narrow)))
+returns-then-done-pairs c m tab acc =
+    let wider = mul-le-mul_left c.args.network.marks c.requires.0.size.narrow in
+    let e = c.pairs.ensures.0 in
+    let t = c.if-done-pairs.true in
+    wrong_given _ _ _ (λ h _. omega (arith, wider))
 
 pub returns-then-not-right : goal.returns-then-not-right
 returns-then-not-right c m tab acc = wrong_given _ _ _ (λ h e. false≢true (sym (c.if-not-right.true) ∙ (c.right.ensures m tab acc).1 e))
