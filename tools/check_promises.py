@@ -7,13 +7,15 @@ import sys
 
 ROOT = pathlib.Path(__file__).resolve().parent.parent
 PAGE = ROOT / "docs" / "PROMISES.md"
-PUBLIC = {"crates/desk/src/lib.rt": "Rounds", "crates/desk/src/held.rt": "held"}  # a file whose `pub fn`s are public, and what they are named by
+PUBLIC = ["crates/desk/src/lib.rt", "crates/desk/src/held.rt", "crates/walk/src/lib.rt"]  # the files whose `pub fn`s are looked at
 
 
-def contracts(text):
-    """Each `pub fn` of a file, with what stands between its name and its body."""
-    for match in re.finditer(r"^\s*pub fn (\w+)(.*?)^\s*\{$", text, re.M | re.S):
-        yield match.group(1), match.group(2)
+def contracts(text, module):
+    """Each `pub fn` of a file, named with its type or else the module, with what stands between its name and its body."""
+    for match in re.finditer(r"^( *)pub fn (\w+)(.*?)^ *\{$", text, re.M | re.S):
+        indent, name, contract = match.groups()
+        types = re.findall(r"^impl(?:<[^>]*>)? (\w+)", text[:match.start()], re.M)
+        yield f"{types[-1] if indent else module}::{name}", contract
 
 
 def unpromised():
@@ -22,16 +24,16 @@ def unpromised():
     for module in re.findall(r"^pub mod (\w+);", (desk / "lib.rt").read_text(), re.M):
         if f"crates/desk/src/{module}.rt" not in PUBLIC:
             yield f"desk::{module} is public and not looked at"
-    for file, owner in PUBLIC.items():
+    for file in PUBLIC:
         text = (ROOT / file).read_text()
-        found = list(contracts(text))
-        if len(found) != len(re.findall(r"\bpub (?:extern \"C\" )?fn\b", text)):
+        found = list(contracts(text, pathlib.Path(file).stem))
+        if len(found) != len(re.findall(r"\bpub\b[^;{(\n]*\bfn\b", text)) or any(re.search(r"\bfn\b", contract) for _, contract in found):
             yield f"{file}: a public function is not read"
         for name, contract in found:
-            if contract.count("ensures {") != 1 or "requires" in contract:
+            if len(re.findall(r"\bensures\b", contract)) != 1 or re.search(r"\brequires\b", contract):
                 yield f"{file}: {name} has not one `ensures` and no `requires`"
-            if f"`{owner}::{name}`" not in page:
-                yield f"{PAGE.name} does not list {owner}::{name}"
+            if f"`{name}`" not in page:
+                yield f"{PAGE.name} does not list {name}"
 
 
 def broken():

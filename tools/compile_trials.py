@@ -12,12 +12,16 @@ import tempfile
 
 HERE = pathlib.Path(__file__).resolve().parent.parent
 TRIALS = [
-    ("a tie for a mark", "rows", "offers.rt", "place(u, states", "place(e, states", "expected `Mark`, found `Tie`"),
-    ("a mark for a tie", "tables", "runs.rt", "let u = Tie::tested(e, ties).enters(", "let u = v.enters(", "no method named `enters` found for type `Mark`"),
-    ("a mark for a tie of a chain", "back", "fill.rt", "chain[i] = e.word()", "chain[i] = at.word()", "no method named `word` found for type `Mark`"),
-    ("a kind for a state", "tables", "steps.rt", "put(table, sources, p, k, q)", "put(table, sources, k, k, q)", "expected `State`, found `Kind`"),
-    ("a plain number for a state", "rows", "offers.rt", "lower(row, State::tested(n, states), w)", "lower(row, n, w)", "expected `State`, found `usize`"),
-    ("a mark made without its entry", "rounds", "area.rt", "Mark::tested(v, network.marks)", "Mark(v)", "its constructor is private"),
+    ("a tie for a mark", "rows", "offers.rt", "place(u, self.states", "place(e, self.states", "expected `Number<Marks>`, found `Number<Ties>`"),
+    ("a mark for a tie", "tables", "runs.rt", "Tie::tested(e, ties).enters(", "v.enters(",
+     "the method `enters` takes `self` as `Number<Ties>`, and is called on `Number<Marks>`"),
+    ("a mark for a tie of a chain", "back", "fill.rt", "chain[i] = taken.tie.word()", "chain[i] = at.mark.word()",
+     "the method `word` takes `self` as `Number<Ties>`, and is called on `Number<Marks>`"),
+    ("a kind for a state", "tables", "steps.rt", "steps.put(p, k, q)", "steps.put(k, k, q)", "expected `Number<States>`, found `Number<Kinds>`"),
+    ("a plain number for a state", "rows", "offers.rt", "lower(row, State::tested(n, states), w)", "lower(row, n, w)",
+     "expected `Number<States>`, found `usize`"),
+    ("a mark made without its entry", "rounds", "area.rt", "Mark::tested(v, marks)", "tables::numbers::Number(v, std::marker::PhantomData)",
+     "the constructor of the tuple struct `Number` is private"),
 ]
 
 

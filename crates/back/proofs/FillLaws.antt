@@ -1,7 +1,7 @@
 -- A turn of the loop that fills. Where a usable tie is sure to stand, the tie picked is the lowest, with the states alive before it; writing it puts
 -- it before the words that follow, and that is one unfolding of `fill`.
 use Prim.Native.Nat.{ℕ, suc, ◌<◌}
-use mathlib.Core.Path.{◌≡◌, refl, sym, ap, ap₂, ◌∙◌}
+use mathlib.Core.Path.{◌≡◌, refl, subst, ap, ap₂, ◌∙◌}
 use mathlib.Core.Bool.{Bool, true, false, cond}
 use mathlib.Core.List.{List, ◌∷◌}
 use native.Mathlib.Omega.{arith}
@@ -12,9 +12,9 @@ use borrow.Author.Tests.{ltb-true, lt-ltb}
 use Rattle.walk.specs.Network.{Network, ties, from_of}
 use Rattle.walk.proofs.Numbers.{clash}
 use Rattle.walk.proofs.Back.{lowest, fill}
-use Rattle.tables.specs.declared.numbers.Tie as tie
-use Rattle.back.specs.declared.pick.Usable.TheVariants.{Tie, None}
-use Rattle.back.specs.Picked.{picked}
+use Rattle.std.specs.Prelude.{Some, None}
+use Rattle.back.specs.declared.ground.Taken.{Taken}
+use Rattle.back.specs.Picked.{taken, picked}
 use Rattle.back.specs.Chain.{Fillable, Surely}
 
 -- a word is written: what stands from its place on
@@ -23,24 +23,24 @@ drop_set l j e h =
     drop-cons (set l j e) j 0 (let z = length-set l j e in omega arith)
     ∙ ap₂ {B = List ℕ} (λ (x : ℕ) (y : List ℕ). x ∷ y) (get_or-set_same l j e 0 h) (drop-set-lt (suc j) l j e (omega arith))
 
+-- where some tie is usable, one is picked
 module _ (N : Network) (back : ℕ → ℕ → ℕ → ℕ) (u i S : ℕ) where
-  pub surely_is : (e : tie.Tie) (s : ℕ) → picked N back 0 u i S ≡ Tie e s → Surely N back u i S e.0 s
+  pub surely_is : (t : Taken) → picked N back 0 u i S ≡ Some t → Surely N back u i S t.tie.0 t.alive
   unfolding picked
-  surely_is e s h = go (ltb (lowest N back 0 u i S) (ties N)) refl h
+  surely_is t h = go (ltb (lowest N back 0 u i S) (ties N)) refl h
     where
       x : ℕ
       x = lowest N back 0 u i S
 
-      go : (b : Bool) → ltb x (ties N) ≡ b → cond b (Tie (record { 0 = x }) (back x i S)) None ≡ Tie e s → Surely N back u i S e.0 s
+      go : (b : Bool) → ltb x (ties N) ≡ b → cond b (Some (taken x (back x i S))) None ≡ Some t → Surely N back u i S t.tie.0 t.alive
       go true b h =
-          let f : x ≡ e.0 = cc in
-          let g : back x i S ≡ s = cc in
-          record { is = sym f; alive = rw (← f) (sym g); tie_in = rw (← f) (ltb-true x (ties N) b) }
+          let f : taken x (back x i S) ≡ t = cc in
+          subst (λ (y : Taken). Surely N back u i S y.tie.0 y.alive) f (record { is = refl; alive = refl; tie_in = ltb-true x (ties N) b })
       go false b h = clash cc
 
-  pub surely_there : picked N back 0 u i S ≡ None → lowest N back 0 u i S < ties N → ⊥
+  pub surely_there : lowest N back 0 u i S < ties N → picked N back 0 u i S ≡ Some (taken (lowest N back 0 u i S) (back (lowest N back 0 u i S) i S))
   unfolding picked
-  surely_there h l = clash (let e = rw (lt-ltb (lowest N back 0 u i S) (ties N) l) at h in cc)
+  surely_there l = rw (lt-ltb (lowest N back 0 u i S) (ties N) l)
 
 module _ (N : Network) (back : ℕ → ℕ → ℕ → ℕ) where
   pub fillable-first : (i j u S : ℕ) → i ≡ suc j → Fillable N back i u S → lowest N back 0 u j S < ties N

@@ -1,6 +1,6 @@
 -- Going back over one tie. The walk over a set joins the states passed that lead on, so at its end those of the whole set; a number is known by its
 -- elements, so what has the elements of a set that is made of a test is that set.
-use Prim.Native.Nat.{ℕ, ◌+◌, ◌*◌, ◌/◌, ◌^◌, ◌<◌, zero-le}
+use Prim.Native.Nat.{ℕ, ◌+◌, ◌*◌, ◌^◌, ◌≤◌, ◌<◌, zero-le}
 use mathlib.Core.Path.{◌≡◌, refl, sym, subst, ap, ◌∙◌}
 use mathlib.Core.Bool.{Bool, true, false, ◌||◌, false≢true}
 use mathlib.Core.List.{List}
@@ -16,7 +16,8 @@ use Rattle.walk.specs.Numbers.{has, ◌and◌, set_below}
 use Rattle.walk.proofs.Numbers.{Yes, and_in, and_of, or_in, eqb_of, any_below_in, any_below_of, yes_same}
 use Rattle.walk.proofs.Sets.{nonempty, in_some, set_is}
 use Rattle.tables.specs.Steps.{steps}
-use Rattle.tables.proofs.SetLaws.{Walk, walk_end, has-and, has-none}
+use Rattle.tables.specs.Sets.{Lowest}
+use Rattle.tables.proofs.SetLaws.{has-and, has-none}
 use Rattle.tables.proofs.StepLaws.{no_and, yes_and}
 use Rattle.rows.specs.Rows.{row, between, Joined, AliveRow}
 use Rattle.rows.proofs.RowLaws.{row_at}
@@ -30,39 +31,39 @@ UpTo x set f n = (p : ℕ) → has x p ≡ (ltb p n and (has set p and f p))
 pub up-to-none : (set : ℕ) (f : ℕ → Bool) → UpTo 0 set f 0
 up-to-none set f p = has-none p ∙ sym (no_and (ltb p 0) _ (le-ltb p 0 zero-le))
 
-pub up-to-more : (set rest k z : ℕ) (f : ℕ → Bool) (s x : ℕ) → Walk set rest k z → UpTo s set f k → Joined x s (k + z) (f (k + z)) → UpTo x set f (k + z + 1)
-up-to-more set rest k z f s x W h j p = yes_same there back
+pub up-to-more : (set at n : ℕ) (f : ℕ → Bool) (s x : ℕ) → Lowest set at n → UpTo s set f at → Joined x s n (f n) → UpTo x set f (n + 1)
+up-to-more set at n f s x W h j p = yes_same there back
   where
-    there : Yes (has x p) → Yes (ltb p (k + z + 1) and (has set p and f p))
+    there : Yes (has x p) → Yes (ltb p (n + 1) and (has set p and f p))
     there t =
         ⊎_elim
-        (λ y. let (a, b) = and_in _ _ (sym (h p) ∙ y) in let l = ltb-true p k a in and_of (lt-ltb p (k + z + 1) (omega arith)) b)
+        (λ y. let (a, b) = and_in _ _ (sym (h p) ∙ y) in let l = ltb-true p at a in and_of (lt-ltb p (n + 1) (omega (arith, W.from))) b)
         (λ y. let (a, b) = and_in _ _ y in
-        let e = eqb-true (k + z) p a in
-        and_of (lt-ltb p (k + z + 1) (omega arith)) (subst (λ (n : ℕ). Yes (has set n and f n)) e (and_of W.stands b)))
-        (or_in (has s p) (eqb (k + z) p and f (k + z)) (sym (j p) ∙ t))
+        let e = eqb-true n p a in
+        and_of (lt-ltb p (n + 1) (omega arith)) (subst (λ (m : ℕ). Yes (has set m and f m)) e (and_of W.stands b)))
+        (or_in (has s p) (eqb n p and f n) (sym (j p) ∙ t))
 
-    back : Yes (ltb p (k + z + 1) and (has set p and f p)) → Yes (has x p)
+    back : Yes (ltb p (n + 1) and (has set p and f p)) → Yes (has x p)
     back t =
         let (a, b) = and_in _ _ t in
-        let l = ltb-true p (k + z + 1) a in
-        j p ∙ go l b (eqb (k + z) p) refl (ltb p k) refl
+        let l = ltb-true p (n + 1) a in
+        j p ∙ go l b (eqb n p) refl (ltb p at) refl
       where
-        go : p < k + z + 1 → Yes (has set p and f p) → (u : Bool) → eqb (k + z) p ≡ u → (v : Bool) → ltb p k ≡ v → Yes (has s p || (eqb (k + z) p and f (k + z)))
+        go : p < n + 1 → Yes (has set p and f p) → (u : Bool) → eqb n p ≡ u → (v : Bool) → ltb p at ≡ v → Yes (has s p || (eqb n p and f n))
         go l b true e v g =
-            or_inr (has s p) _ (and_of e (subst (λ (n : ℕ). Yes (f n)) (sym (eqb-true (k + z) p e)) (and_in _ _ b).1))
+            or_inr (has s p) _ (and_of e (subst (λ (m : ℕ). Yes (f m)) (sym (eqb-true n p e)) (and_in _ _ b).1))
         go l b false e true g = or_inl (has s p) _ (h p ∙ and_of g b)
         go l b false e false g =
-            let ne : ¬ (k + z ≡ p) = eqb-false (k + z) p e in
-            let m = ltb-false p k g in
+            let ne : ¬ (n ≡ p) = eqb-false n p e in
+            let m = ltb-false p at g in
             absurd (false≢true (sym (W.between p m (omega arith)) ∙ (and_in _ _ b).0))
 
-pub up-to-end : (set k : ℕ) (f : ℕ → Bool) (x : ℕ) → 0 ≡ set / 2 ^ k → UpTo x set f k → (p : ℕ) → has x p ≡ (has set p and f p)
-up-to-end set k f x e h p = h p ∙ go (ltb p k) refl
+pub up-to-end : (set at : ℕ) (f : ℕ → Bool) (x : ℕ) → ((i : ℕ) → at ≤ i → has set i ≡ false) → UpTo x set f at → (p : ℕ) → has x p ≡ (has set p and f p)
+up-to-end set at f x e h p = h p ∙ go (ltb p at) refl
   where
-    go : (t : Bool) → ltb p k ≡ t → (ltb p k and (has set p and f p)) ≡ (has set p and f p)
+    go : (t : Bool) → ltb p at ≡ t → (ltb p at and (has set p and f p)) ≡ (has set p and f p)
     go true g = yes_and _ _ g
-    go false g = no_and _ _ g ∙ sym (no_and _ _ (walk_end set k e p (ltb-false p k g)))
+    go false g = no_and _ _ g ∙ sym (no_and _ _ (e p (ltb-false p at g)))
 
 -- what the test of a state says
 pub leads_yes : (T : List ℕ) (kinds S p x : ℕ) → S < 2 ^ 32 → ((q : ℕ) → has x q ≡ steps T kinds p q) → (bit_and x S ≡ 0 → ⊥) → leads_into T kinds S p ≡ true

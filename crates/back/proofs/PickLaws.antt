@@ -3,6 +3,7 @@
 -- is usable, and where the run has none there is none.
 use Prim.Native.Nat.{ℕ, ◌+◌, ◌-◌, ◌≤◌, ◌<◌}
 use mathlib.Core.Path.{◌≡◌, refl, sym, subst, ap, ◌∙◌}
+use Rattle.std.specs.Prelude.{Option, Some, None}
 use mathlib.Core.Bool.{Bool, true, false, not, cond}
 use mathlib.Core.List.{List}
 use native.Mathlib.Nat.{le_refl}
@@ -20,10 +21,7 @@ use Rattle.tables.specs.Runs.{RunInto}
 use Rattle.tables.proofs.Searches.{NoneBefore, none_more, found_first, found_none}
 use Rattle.tables.proofs.StepLaws.{yes_and}
 use Rattle.rows.specs.Offers.{TiesIn}
-use Rattle.back.specs.declared.pick.Place.{Place}
-use Rattle.back.specs.declared.pick.Place.TheVariants as place
-use Rattle.back.specs.declared.pick.Usable.TheVariants as usable
-use Rattle.back.specs.Picked.{smallest_of, picked}
+use Rattle.back.specs.Picked.{taken, smallest_of, picked}
 
 -- the search along a run
 module _ (back : ℕ → ℕ → ℕ → ℕ) (low i S : ℕ) where
@@ -46,29 +44,29 @@ module _ (back : ℕ → ℕ → ℕ → ℕ) (low i S : ℕ) where
     none = none_more alive_from j P.none (yes_and _ _ (le-leb low j P.begun) ∙ ap not (eq-eqb _ 0 (sym e ∙ z)));
   }
 
-  pub passed_here : (n j x : ℕ) → Passed j → x ≡ back j i S → (x ≡ 0 → ⊥) → j < n → place.At j x ≡ smallest_of n back low i S
+  pub passed_here : (n j x : ℕ) → Passed j → x ≡ back j i S → (x ≡ 0 → ⊥) → j < n → Some (j, x) ≡ smallest_of n back low i S
   unfolding smallest_of nonempty
   passed_here n j x P e ne h =
       let y : Yes (alive_from j) = and_of (le-leb low j P.begun) (ap not (ne_eqb _ 0 (λ z. ne (e ∙ z)))) in
       let f = found_first alive_from n j P.none h y in
       rw (← f, lt-ltb j n h, e)
 
-  pub passed-all : (n j : ℕ) → Passed j → n ≤ j → place.None ≡ smallest_of n back low i S
+  pub passed-all : (n j : ℕ) → Passed j → n ≤ j → None ≡ smallest_of n back low i S
   unfolding smallest_of
   passed-all n j P h =
       let f = found_none alive_from n j P.none h in
       rw (← f, le-ltb n n (le_refl n))
 
   -- what the smallest place is
-  abbrev Found : ℕ → Place → Type 0
-  Found n (place.At j x) = (j < n) × FirstAt alive_from j × (x ≡ back j i S)
-  Found n place.None = NoneBefore alive_from n
+  abbrev Found : ℕ → Option (ℕ × ℕ) → Type 0
+  Found n (Some (j, x)) = (j < n) × FirstAt alive_from j × (x ≡ back j i S)
+  Found n None = NoneBefore alive_from n
 
   small_found : (n : ℕ) → Found n (smallest_of n back low i S)
   unfolding smallest_of
   small_found n = go (least alive_from n) (ltb (least alive_from n) n) refl (least-is alive_from n)
     where
-      go : (k : ℕ) (t : Bool) → ltb k n ≡ t → Least alive_from n k → Found n (cond t (place.At k (back k i S)) place.None)
+      go : (k : ℕ) (t : Bool) → ltb k n ≡ t → Least alive_from n k → Found n (cond t (Some (k, back k i S)) None)
       go k true e L = let l = ltb-true k n e in (l, record { met = L.passes l; least = L.none_before }, refl)
       go k false e L = λ m h. L.none_before m (let l = ltb-false k n e in omega arith)
 
@@ -101,9 +99,9 @@ module _ (N : Network) (back : ℕ → ℕ → ℕ → ℕ) (low u i S first : �
   usable_from e = leb low e and enters N back u i S e
 
   -- what is picked, by what the search along the run answers
-  abbrev pub PickedBy : Place → Type 0
-  PickedBy (place.At j x) = (first + j < ties N) × (usable.Tie (record { 0 = first + j }) x ≡ picked N back low u i S)
-  PickedBy place.None = usable.None ≡ picked N back low u i S
+  abbrev pub PickedBy : Option (ℕ × ℕ) → Type 0
+  PickedBy (Some (j, x)) = (first + j < ties N) × (Some (taken (first + j) x) ≡ picked N back low u i S)
+  PickedBy None = None ≡ picked N back low u i S
 
   module _ (end : ℕ) (R : RunInto N.tos (ties N) u first end) (over : ℕ → ℕ → ℕ → ℕ)
       (same : (j : ℕ) → j < end - first → over j i S ≡ back (first + j) i S) where
@@ -129,17 +127,17 @@ module _ (N : Network) (back : ℕ → ℕ → ℕ → ℕ) (low u i S first : �
         let z : first + (m - first) ≡ m = omega arith in
         (omega arith, omega arith, and_of (le-leb (low - first) (m - first) (omega arith)) (rw (same (m - first) (omega arith), z) d))
 
-    picked_of : (r : Place) → Found over (low - first) i S (end - first) r → PickedBy r
+    picked_of : (r : Option (ℕ × ℕ)) → Found over (low - first) i S (end - first) r → PickedBy r
     unfolding picked lowest
-    picked_of (place.At j x) (h, F, e) =
+    picked_of (Some (j, x)) (h, F, e) =
         let l : first + j < ties N = omega (arith, R.ends.within) in
         let none : NoneBefore usable_from (first + j) =
         λ m g t. let (a, b, y) = to_part m (omega arith) t in F.least (m - first) (omega arith) y in
         let f = found_first usable_from (ties N) (first + j) none l (of_part j h F.met) in
         (l, rw (← f, lt-ltb (first + j) (ties N) l, e, same j h))
-    picked_of place.None none =
+    picked_of None none =
         let f = found_none usable_from (ties N) (ties N) (λ m g t. let (a, b, y) = to_part m g t in none (m - first) (omega arith) y) (le_refl _) in
         rw (← f, le-ltb (ties N) (ties N) (le_refl _))
 
-    pub picked-by : (r : Place) → r ≡ smallest_of (end - first) over (low - first) i S → PickedBy r
+    pub picked-by : (r : Option (ℕ × ℕ)) → r ≡ smallest_of (end - first) over (low - first) i S → PickedBy r
     picked-by r e = picked_of r (subst (Found over (low - first) i S (end - first)) (sym e) (small_found over (low - first) i S (end - first)))

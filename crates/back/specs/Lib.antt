@@ -1,3 +1,4 @@
 pub mod Chain
+pub mod Ground
 pub mod Over
 pub mod Picked

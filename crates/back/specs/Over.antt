@@ -1,12 +1,8 @@
 -- Going back over one tie, by the step table and the words of an area.
-use Rattle.std.specs.Prelude.{ℕ, ◌+◌, ◌*◌, ◌≤◌, Bool, List, ◌≡◌, eqb, get_or}
-use Rattle.walk.specs.declared.Network as lent
+use Rattle.std.specs.Prelude.{ℕ, ◌+◌, ◌*◌, Bool, List, ◌≡◌, eqb, get_or}
 use Rattle.walk.specs.Ceilings.{ceilings}
 use Rattle.walk.specs.Numbers.{has, ◌and◌, any_below, set_below}
-use Rattle.tables.specs.Runs.{Rising}
 use Rattle.tables.specs.Steps.{steps}
-use Rattle.rows.specs.Rows.{Sized}
-use Rattle.rows.specs.Offers.{TiesIn}
 
 -- along a tie with these kinds some state of S follows p
 unfoldable pub leads_into : List ℕ → ℕ → ℕ → ℕ → Bool
@@ -27,10 +23,3 @@ over_tie T A Q from sets e i S = over T A Q (get_or from e 0) (get_or sets e 0) 
 -- the states alive at t: the accepting ones with the word n
 unfoldable pub ends_at : List ℕ → ℕ → ℕ → ℕ → ℕ → ℕ
 ends_at A Q t accept n = set_below Q (λ q. eqb (get_or A (t * Q + q) 0) n and has accept q)
-
--- what refusals 1 to 7 leave of the columns and the area
-pub record Ready (n : lent.Network) (states ties : ℕ) (from to sets A : List ℕ) : Type 0 where
-  pub size : Sized n.marks n.kinds states A
-  pub columns : TiesIn n.marks n.kinds ties from sets
-  pub rising : Rising to ties n.marks
-  pub few_ties : ties ≤ ceilings.ties

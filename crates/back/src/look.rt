@@ -2,136 +2,78 @@
 // the front counts.
 
 ghost use Rattle.std.specs.Prelude.{true, ◌≡◌, ◌≤◌, ◌<◌, length};
+ghost use Rattle.walk.specs.declared.Refusal.TheVariants.{NotListed};
 ghost use Rattle.walk.specs.Ceilings.{ceilings};
-ghost use Rattle.walk.specs.Answers.{network_of};
 ghost use Rattle.walk.proofs.Sets.{nonempty};
 ghost use Rattle.walk.proofs.Back.{goes, raise};
-ghost use Rattle.back.specs.Over.{over_tie, Ready};
+ghost use Rattle.back.specs.Ground.{net, back};
 ghost use Rattle.back.specs.Picked.{stepped};
-ghost use Rattle.back.specs.Chain.{raised_at, nearer, seen};
+ghost use Rattle.back.specs.Chain.{seen};
 
-use crate::pick::Usable;
-use crate::{pick, step};
-use tables::numbers::{Mark, Tie, TieEntry};
-use tables::steps::Steps;
-use walk::Network;
+use crate::ground::{At, Ground, Taken};
+use tables::numbers::Tie;
+use walk::{Refusal, Refused};
 
-// What is seen of a chain: a place whose tie can be raised, with that tie and the states alive before it.
+// A place of a chain whose tie can be raised, with the tie that it is raised to and the states alive before that.
 #[derive(Clone, Copy)]
-pub enum Seen {
-    Unlisted,
-    Last,
-    At(usize, Tie, u32),
+pub struct Raised {
+    pub place: usize,
+    pub taken: Taken,
 }
 
-// The tie that a word of the chain names, if it enters `at` and a state is alive before it.
-fn stepped(
-    from: &[u16],
-    to: &[u16],
-    kinds: &[u32],
-    table: &[u32; Steps::WORDS],
-    area: &[u16],
-    network: Network,
-    states: usize,
-    ties: usize,
-    word: u16,
-    at: Mark,
-    i: u16,
-    alive: u32,
-) -> Usable
-    requires { Ready network states ties from.now to.now kinds.now area.now × (at.0 < network.marks) × (i < ceilings.unreached) }
-    ensures { result ≡ stepped (network_of network from.now to.now kinds.now)
-        (over_tie table.now area.now states from.now kinds.now) at.0 i alive word }
-{
-    match Tie::checked(word as usize, ties) {
-        TieEntry::Not => Usable::None,
-        TieEntry::Is(e) => {
-            let u = e.leaves(from, network.marks);
-            if e.enters(to, network.marks).index() != at.index() {
-                return Usable::None;
-            }
-            let before = step::over(table, area, network, states, u, e.kinds(kinds), i, alive);
-            if before == 0 {
-                return Usable::None;
-            }
-            Usable::Tie(e, before)
+// The chain is no listed one.
+#[derive(Clone, Copy)]
+pub struct Unlisted {}
+
+// Refusal 11.
+impl From<Unlisted> for Refused {
+    ghost from_gives = { λ _ e. e ≡ record { refusal = NotListed; place = 0 } };
+
+    fn from(_chain: Unlisted) -> Refused {
+        Refused {
+            refusal: Refusal::NotListed,
+            place: 0,
         }
     }
 }
 
-// What is seen at place i, where `higher` is the tie that it can be raised to.
-fn raised(i: usize, higher: Usable) -> Seen
-    ensures { result ≡ raised_at i higher }
-{
-    match higher {
-        Usable::Tie(e, before) => Seen::At(i, e, before),
-        Usable::None => Seen::Last,
-    }
-}
-
-// What is seen nearest the front, of a place and those after it.
-fn nearer(near: Seen, far: Seen) -> Seen
-    ensures { result ≡ nearer near far }
-{
-    match near {
-        Seen::Unlisted => far,
-        Seen::Last => far,
-        Seen::At(i, e, before) => Seen::At(i, e, before),
-    }
-}
-
-// The chain into t is walked back from its end, where the states of a set are alive.
-pub fn look(
-    from: &[u16],
-    to: &[u16],
-    kinds: &[u32],
-    table: &[u32; Steps::WORDS],
-    area: &[u16],
-    network: Network,
-    states: usize,
-    ties: usize,
-    chain: &[u16],
-    t: Mark,
-    end: u32,
-) -> Seen
-    requires { Ready network states ties from.now to.now kinds.now area.now × (t.0 < network.marks)
-        × (length chain.now ≤ ceilings.unreached) × (nonempty end ≡ true) }
-    ensures { result ≡ seen
-        (goes (network_of network from.now to.now kinds.now)
-        (over_tie table.now area.now states from.now kinds.now) t.0 end 0 chain.now)
-        (raise (network_of network from.now to.now kinds.now)
-        (over_tie table.now area.now states from.now kinds.now) t.0 end 0 chain.now) }
-{
-    let mut i = chain.len();
-    let mut at = t;
-    let mut set = end;
-    let mut best = Seen::Last;
-    while i > 0 {
-        i -= 1;
-        match stepped(
-            from, to, kinds, table, area, network, states, ties, chain[i], at, i as u16, set,
-        ) {
-            Usable::None => return Seen::Unlisted,
-            Usable::Tie(e, before) => {
-                let higher = pick::into(
-                    from,
-                    to,
-                    kinds,
-                    table,
-                    area,
-                    network,
-                    states,
-                    ties,
-                    at,
-                    e.index() + 1,
-                    i as u16,
-                    set,
-                );
-                best = nearer(raised(i, higher), best);
-                at = e.leaves(from, network.marks);
-                set = before;
-            }
+impl<'a> Ground<'a> {
+    // The tie that a word of the chain names, if it enters the mark and a state is alive before it.
+    fn stepped(&self, word: u16, at: At, i: u16) -> Option<Taken>
+        requires { (at.mark.0 < self.now.words.network.marks) × (i < ceilings.unreached) }
+        ensures { result ≡ stepped (net self.now) (back self.now) at.mark.0 i at.alive word }
+    {
+        let marks = self.words.network.marks;
+        let tie = Tie::checked(usize::from(word), self.from.len())?;
+        let u = tie.leaves(self.from, marks);
+        if tie.enters(self.to, marks).index() != at.mark.index() {
+            return None;
         }
+        let alive = self.words.over(u, tie.kinds(self.kinds), i, at.alive);
+        if alive == 0 {
+            return None;
+        }
+        Some(Taken { tie, alive })
     }
-    best
+
+    // The chain is walked back from its end: a place of it that can be raised, if there is one.
+    pub fn look(&self, chain: &[u16], end: At) -> Result<Option<Raised>, Unlisted>
+        requires { (end.mark.0 < self.now.words.network.marks) × (length chain.now ≤ ceilings.unreached) × (nonempty end.alive ≡ true) }
+        ensures { result ≡ seen (goes (net self.now) (back self.now) end.mark.0 end.alive 0 chain.now)
+            (raise (net self.now) (back self.now) end.mark.0 end.alive 0 chain.now) }
+    {
+        let mut at = end;
+        let mut best = None;
+        for i in (0..chain.len()).rev() {
+            let taken = self.stepped(chain[i], at, i as u16).ok_or(Unlisted {})?;
+            if let Some(taken) = self.pick(at, taken.tie.index() + 1, i as u16) {
+                best = Some(Raised { place: i, taken });
+            }
+            at = At {
+                mark: taken.tie.leaves(self.from, self.words.network.marks),
+                alive: taken.alive,
+            };
+        }
+        Ok(best)
+    }
 }

@@ -7,57 +7,46 @@ ghost use Rattle.rows.specs.Offers.{Within};
 ghost use Rattle.back.specs.Over.{Leading, over, ends_at};
 
 use tables::numbers::{Mark, State};
+use tables::sets::{Elements, with};
 use tables::steps::Steps;
-use tables::{sets, steps};
 use walk::{Condition, Network};
 
 // The states of a set from which a tie with these kinds leads to a state alive.
-fn leading(
-    table: &[u32; Steps::WORDS],
-    carried: u32,
-    kinds: usize,
-    set: u32,
-    states: usize,
-    alive: u32,
-) -> u32
+fn leading(steps: &Steps, carried: u32, kinds: usize, set: u32, states: usize, alive: u32) -> u32
     requires { (kinds ≤ ceilings.kinds) × (states ≤ ceilings.states) × Within carried kinds × Within set states }
-    ensures { Leading table.now carried set alive result }
+    ensures { Leading steps.now.table carried set alive result }
 {
     let mut found = 0u32;
-    let mut rest = set;
-    let mut n = 0;
-    while rest != 0 {
-        let z = sets::lowest(rest);
-        n += z;
+    for n in Elements::of(set) {
         let p = State::tested(n, states);
-        if steps::nexts(table, carried, kinds, p) & alive != 0 {
-            found = sets::with(found, p.index());
+        if steps.nexts(carried, kinds, p) & alive != 0 {
+            found = with(found, p.index());
         }
-        rest = sets::above(rest, z);
-        n += 1;
     }
     found
 }
 
-// The states alive before a tie that leaves u with these kinds, when i ties are to come before it.
-pub fn over(
-    table: &[u32; Steps::WORDS],
-    area: &[u16],
-    network: Network,
-    states: usize,
-    u: Mark,
-    carried: u32,
-    i: u16,
-    alive: u32,
-) -> u32
-    requires { (u.0 < network.marks) × Sized network.marks network.kinds states area.now × Within carried network.kinds
-        × (i < ceilings.unreached) }
-    ensures { result ≡ over table.now area.now states u.0 carried i alive }
-{
-    let at = rows::place(u, states, network.marks);
-    let end = at + states;
-    let set = rows::alive::of_row(&area[at..end], states, i, i + 1);
-    leading(table, carried, network.kinds, set, states, alive)
+// What a step back looks at: the words of an area, and the step table.
+#[derive(Clone, Copy)]
+pub struct Words<'a> {
+    pub network: Network,
+    pub states: usize,
+    pub area: &'a [u16],
+    pub steps: &'a Steps,
+    ghost size: { Sized network.marks network.kinds states area.now },
+}
+
+impl<'a> Words<'a> {
+    // The states alive before a tie that leaves u with these kinds, when i ties are to come before it.
+    pub fn over(&self, u: Mark, carried: u32, i: u16, alive: u32) -> u32
+        requires { (u.0 < self.now.network.marks) × Within carried self.now.network.kinds × (i < ceilings.unreached) }
+        ensures { result ≡ over self.now.steps.now.table self.now.area.now self.now.states u.0 carried i alive }
+    {
+        let states = self.states;
+        let at = rows::place(u, states, self.network.marks);
+        let set = rows::alive::of_row(&self.area[at..at + states], states, i, i + 1);
+        leading(self.steps, carried, self.network.kinds, set, states, alive)
+    }
 }
 
 // The states alive at t: the accepting ones with the word n.
@@ -66,7 +55,7 @@ pub fn ends(area: &[u16], marks: usize, condition: Condition, t: Mark, n: u16) -
         × (marks * condition.states ≤ length area.now) × (n < ceilings.unreached) }
     ensures { result ≡ ends_at area.now condition.states t.0 condition.accept n }
 {
-    let at = rows::place(t, condition.states, marks);
-    let end = at + condition.states;
-    rows::alive::of_row(&area[at..end], condition.states, n, n + 1) & condition.accept
+    let states = condition.states;
+    let at = rows::place(t, states, marks);
+    rows::alive::of_row(&area[at..at + states], states, n, n + 1) & condition.accept
 }

@@ -7,36 +7,36 @@ use mathlib.Core.List.{List, [], ◌∷◌, append_assoc}
 use lib.Dec.{ltb}
 use lib.ListN.{length}
 use borrow.Author.Tests.{ltb-false, le-ltb}
-use Rattle.walk.specs.declared.Network as network
-use Rattle.walk.specs.declared.Condition as condition
-use Rattle.walk.specs.declared.Ask.{Ask}
-use Rattle.walk.specs.declared.Move.{Move}
-use Rattle.walk.specs.declared.Refusal.{Refusal}
+use Rattle.std.specs.Prelude.{Option, Some, Result, Ok, Err}
+use Rattle.walk.specs.declared.Question as lent
+use Rattle.walk.specs.declared.Refused.{Refused}
 use Rattle.walk.specs.declared.Refusal.TheVariants.{ShortChain, NotListed}
 use Rattle.walk.specs.declared.Status.{Status}
 use Rattle.walk.specs.declared.Status.TheVariants.{Found, None, Going}
+use Rattle.walk.specs.Network.{Network}
 use Rattle.walk.specs.Question.{Question, status}
 use Rattle.walk.specs.Refusals.{number, unfinished, short_chain, not_listed, round_tests, list_tests, first_tests, next_tests}
 use Rattle.walk.specs.Calls.{refused, gives, NoChain, first, next}
 use Rattle.walk.specs.Demands.{NoneGiven}
-use Rattle.walk.specs.Answers.{question, Meets}
+use Rattle.walk.specs.Answers.{network_of, Meets}
 use Rattle.walk.proofs.Refusals.{none-append, none_one, judged-none}
-use Rattle.tables.specs.declared.tests.Verdict.TheVariants as verdict
 use Rattle.tables.specs.Tests.{first_given}
-use Rattle.tables.proofs.Verdicts.{refused-answers, passed_none, given-before, given_behind}
-use Rattle.rounds.specs.declared.tests.Stand.TheVariants.{At}
+use Rattle.tables.proofs.Verdicts.{at, refused-answers, passed_none, given-before, given_behind}
+use Rattle.rounds.specs.declared.lent.Lent.{Lent}
 use Rattle.rounds.specs.Judged.{Judges}
-use Rattle.rounds.proofs.Lending.{none_right, sized, ties_in, rising}
+use Rattle.rounds.proofs.Lending.{none_right}
 use Rattle.rounds.proofs.Meeting.{meets_as}
-use Rattle.chains.specs.declared.tests.Asked.TheVariants as asked
-use Rattle.chains.specs.Asking.{by_status, Asks}
-use Rattle.chains.specs.Following.{Cleared}
-use Rattle.chains.proofs.Listing.{FoundRight, length-few}
+use Rattle.back.specs.declared.ground.Ground.{Ground}
+use Rattle.back.specs.Over.{over_tie}
+use Rattle.back.specs.Ground.{net, back}
+use Rattle.chains.specs.Following.{Over}
+use Rattle.chains.specs.Asking.{Gives, by_status, Asks}
+use Rattle.chains.proofs.Listing.{FoundRight}
 
 module _ (D : Question) (r : ℕ) (A : List ℕ) where
-  pub refused-early : (x : Refusal) (p : ℕ) → first_given (round_tests D r A) ≡ verdict.Refused x p → (c : List ℕ) → first_given (first_tests D r A c) ≡ verdict.Refused x p
+  pub refused-early : (e : Refused) → first_given (round_tests D r A) ≡ Err e → (c : List ℕ) → first_given (first_tests D r A c) ≡ Err e
   unfolding first_tests list_tests
-  refused-early x p e c = given-before _ _ x p (given-before (round_tests D r A) _ x p e)
+  refused-early e f c = given-before _ _ e.refusal e.place (given-before (round_tests D r A) _ e.refusal e.place f)
 
   -- the last two rows
   last_two : NoneGiven (round_tests D r A) → (c : List ℕ) → first_given (first_tests D r A c) ≡ first_given (unfinished D r ∷ short_chain D r c ∷ [])
@@ -45,32 +45,46 @@ module _ (D : Question) (r : ℕ) (A : List ℕ) where
       ap first_given (append_assoc (round_tests D r A) (unfinished D r ∷ []) (short_chain D r c ∷ []))
       ∙ given_behind (round_tests D r A) (unfinished D r ∷ short_chain D r c ∷ []) h
 
-  pub asks : (room : ℕ) (T S : List ℕ) (s : Status) → Judges D r A T S (At s) → Asks D r A room T (by_status s room)
-  unfolding first_given unfinished short_chain
-  asks room T S Going (e, f, F) = λ c l. last_two (passed_none _ e) c ∙ (rw (← f))
-  asks room T S None (e, f, F) = (λ c l. last_two (passed_none _ e) c ∙ (rw (← f, le-ltb (length c) 0 zero-le)), sym f)
-  asks room T S (Found n) (e, f, F) = go (ltb room n) refl
-    where
-      go : (b : Bool) → ltb room n ≡ b → Asks D r A room T (cond b (asked.Refused ShortChain n) (asked.Found n))
-      go true b = λ c l. last_two (passed_none _ e) c ∙ (rw (← f, l, b))
-      go false b = (λ c l. last_two (passed_none _ e) c ∙ (rw (← f, l, b)), sym f, F.tabled)
+  -- what the status says, with room for a chain: a refusal, or the least length
+  module _ (q : lent.Question) (room : ℕ) (l : Lent) where
+    -- what is answered, by the least length or the refusal
+    abbrev Answered : Result (Option ℕ) Refused → Type 0
+    Answered (Err e) = Gives D r A room (Err e)
+    Answered (Ok o) = Asks q D r A room (Ok (l, o))
+
+    answered : (s : Status) → Judges q D r A (Ok (l, s)) → Answered (by_status s room)
+    unfolding first_given unfinished short_chain
+    answered Going (e, f, h, F) = λ c w. last_two (passed_none _ e) c ∙ (rw (← f))
+    answered None (e, f, h, F) = (λ c w. last_two (passed_none _ e) c ∙ (rw (← f, le-ltb (length c) 0 zero-le)), sym f, (h, F))
+    answered (Found n) (e, f, h, F) = go (ltb room n) refl
+      where
+        go : (b : Bool) → ltb room n ≡ b → Answered (cond b (Err (record { refusal = ShortChain; place = n })) (Ok (Some n)))
+        go true b = λ c w. last_two (passed_none _ e) c ∙ (rw (← f, w, b))
+        go false b = (λ c w. last_two (passed_none _ e) c ∙ (rw (← f, w, b)), sym f, (h, F))
+
+    pub asks_err : (s : Status) (e : Refused) → Judges q D r A (Ok (l, s)) → by_status s room ≡ Err e → Gives D r A room (Err e)
+    asks_err s e J f = rw f at (answered s J)
+
+    pub asks_ok : (s : Status) (o : Option ℕ) → Judges q D r A (Ok (l, s)) → by_status s room ≡ Ok o → Asks q D r A room (Ok (l, o))
+    asks_ok s o J f = rw f at (answered s J)
 
   -- the calls where the tests refuse, and where there is no chain
   module _ (c : List ℕ) where
-    pub first-refused : (x : Refusal) (p : ℕ) → first_given (first_tests D r A c) ≡ verdict.Refused x p → Meets (first D r A c) (refused (number x) p) c
+    pub first-refused : (e : Refused) → first_given (first_tests D r A c) ≡ Err e → Meets (first D r A c) (refused (number e.refusal) e.place) c
     unfolding first
-    first-refused x p e = meets_as _ _ _ c (refused-answers c _ (first_tests D r A c) x p e) (record { answers = refl; leaves = refl })
+    first-refused e f = meets_as _ _ _ c (refused-answers c _ (first_tests D r A c) e.refusal e.place f) (record { answers = refl; leaves = refl })
 
-    pub next-refused : (x : Refusal) (p : ℕ) → first_given (first_tests D r A c) ≡ verdict.Refused x p → Meets (next D r A c) (refused (number x) p) c
+    pub next-refused : (e : Refused) → first_given (first_tests D r A c) ≡ Err e → Meets (next D r A c) (refused (number e.refusal) e.place) c
     unfolding next next_tests
-    next-refused x p e = meets_as _ _ _ c (refused-answers c _ _ x p (given-before (first_tests D r A c) _ x p e)) (record { answers = refl; leaves = refl })
+    next-refused e f =
+        meets_as _ _ _ c (refused-answers c _ _ e.refusal e.place (given-before (first_tests D r A c) _ e.refusal e.place f)) (record { answers = refl; leaves = refl })
 
-    module _ (passed : first_given (first_tests D r A c) ≡ verdict.Passed) where
+    module _ (passed : first_given (first_tests D r A c) ≡ Ok tt) where
       pub first-none : status D r ≡ None → Meets (first D r A c) (gives NoChain) c
       unfolding first
       first-none e = meets_as _ _ _ c (judged-none c _ (first_tests D r A c) (passed_none _ passed)) (rw e (record { answers = refl; leaves = refl }))
 
-      none-given : status D r ≡ None → first_given (next_tests D r A c) ≡ verdict.Refused NotListed 0
+      none-given : status D r ≡ None → first_given (next_tests D r A c) ≡ at NotListed 0
       unfolding next_tests not_listed first_given
       none-given e = given_behind (first_tests D r A c) (not_listed D r c ∷ []) (passed_none _ passed) ∙ (rw e)
 
@@ -84,33 +98,27 @@ pub record Listable (D : Question) (r : ℕ) (A c T : List ℕ) (n : ℕ) : Type
   pub passed : NoneGiven (first_tests D r A c)
   pub room : n ≤ length c
 
-pub listable : (D : Question) (r : ℕ) (A c T : List ℕ) (n : ℕ) → Asks D r A (length c) T (asked.Found n) → Listable D r A c T n
+pub listable : (q : lent.Question) (D : Question) (r : ℕ) (A c : List ℕ) (l : Lent) (n : ℕ) → Asks q D r A (length c) (Ok (l, Some n))
+    → Listable D r A c l.steps.table n
 unfolding first_tests list_tests short_chain
-listable D r A c T n (G, e, tab) =
+listable q D r A c l n (G, e, (_, F)) =
     let passed = passed_none _ (G c refl) in
     let (before, last) = (none-append (list_tests D r A) (short_chain D r c ∷ [])).0 passed in
     let (acc, long, few, is_right) = none_right D r A ((none-append (round_tests D r A) (unfinished D r ∷ [])).0 before).0 in
     record {
-      prepared = record { accepted = acc; long = long; few = few; is_right = is_right; tabled = tab; found = e };
+      prepared = record { accepted = acc; long = long; few = few; is_right = is_right; tabled = F.tabled; found = e };
       passed = passed;
       room = ltb-false (length c) n (rw e at ((none_one (short_chain D r c)).0 last));
     }
 
--- what the work is lent then
-pub cleared : (n : network.Network) (c : condition.Condition) (a : Ask) (from to sets : List ℕ) (m : List Move) (r : ℕ) (A b T : List ℕ) (k : ℕ)
-    → Listable (question n c a from to sets m) r A b T k → Cleared n c.states (length from) a from to sets A k b
-cleared n c a from to sets m r A b T k L =
-    let P = L.prepared in
-    let acc = P.accepted in
-    record {
-      ready = record {
-        size = sized n c a from to sets m acc A P.long;
-        columns = ties_in n c a from to sets m acc;
-        rising = rising n c a from to sets m acc;
-        few_ties = acc.sizes.few;
-      };
-      from_in = acc.ends.0;
-      to_in = acc.ends.1;
-      few = length-few _ _ _ _ _ P;
-      room = L.room;
-    }
+-- the ground of what is lent on, by the question that is asked
+pub over-is : (l : Lent) (q : lent.Question) (A : List ℕ) (g : Ground) → Over l A g → l.question ≡ q
+    → (net g ≡ network_of q.network q.from.now q.to.now q.kinds.now)
+    × (back g ≡ over_tie l.steps.table A q.condition.states q.from.now q.kinds.now) × (g.words.network.marks ≡ q.network.marks)
+over-is l q A g O e = (O.net_is ∙ ap net_of e, O.back_is ∙ ap back_of e, O.marks_are ∙ ap (λ (z : lent.Question). z.network.marks) e)
+  where
+    net_of : lent.Question → Network
+    net_of z = network_of z.network z.from.now z.to.now z.kinds.now
+
+    back_of : lent.Question → ℕ → ℕ → ℕ → ℕ
+    back_of z = over_tie l.steps.table A z.condition.states z.from.now z.kinds.now

@@ -14,6 +14,8 @@ use mathlib.Mathlib.Data.Bool.Basic.{eq-false_of_not-eq-true}
 use Rattle.walk.specs.declared.Status.TheVariants.{Found}
 use Rattle.walk.specs.declared.Refusal.TheVariants.{NotListed}
 use Rattle.walk.specs.declared.Next.{Next}
+use Rattle.walk.specs.declared.Refused.{Refused}
+use Rattle.std.specs.Prelude.{Result, Ok}
 use Rattle.walk.specs.Network.{Network, from_of}
 use Rattle.walk.specs.Condition.{Condition}
 use Rattle.walk.specs.Walk.{LeastMatching}
@@ -27,7 +29,8 @@ use Rattle.walk.proofs.Numbers.{Yes}
 use Rattle.walk.proofs.Sets.{nonempty}
 use Rattle.walk.proofs.Executable.{Sound}
 use Rattle.walk.proofs.Words.{unreached, Right}
-use Rattle.walk.proofs.Areas.{at, area-right}
+use Rattle.walk.proofs.Areas as Areas
+use Rattle.walk.proofs.Areas.{area-right}
 use Rattle.walk.proofs.Order.{member_law}
 use Rattle.walk.proofs.Refusals.{ready, judged-none, none-append, none_one}
 use Rattle.walk.proofs.Demand2.{found-says}
@@ -35,9 +38,8 @@ use Rattle.walk.proofs.Back.{Raise, set_at, fill, fill-ends, goes, raise, raised
 use Rattle.walk.proofs.Back as Back
 use Rattle.walk.proofs.FirstNext.{first_law, next_law}
 use Rattle.tables.specs.Steps.{Tabled}
-use Rattle.tables.specs.declared.tests.Verdict.TheVariants as verdict
 use Rattle.tables.specs.Tests.{first_given}
-use Rattle.tables.proofs.Verdicts.{refused-answers, given_behind}
+use Rattle.tables.proofs.Verdicts.{at, refused-answers, given_behind}
 use Rattle.back.specs.Over.{over_tie, ends_at}
 use Rattle.back.specs.Chain.{Fillable, raise_seen, seen}
 use Rattle.back.proofs.StepBack.{same_back, same_end}
@@ -88,7 +90,7 @@ module _ (D : Question) (r : ℕ) (A T : List ℕ) (n : ℕ) (P : FoundRight D r
   pub length-few : n < unreached
   length-few = omega (arith, short.0, below)
 
-  right-words : Right N C D.from r (at N C D.from A)
+  right-words : Right N C D.from r (Areas.at N C D.from A)
   unfolding right usable
   right-words = (area-right N C D.from r A P.long).0 P.is_right
 
@@ -186,7 +188,7 @@ module _ (D : Question) (r : ℕ) (A T : List ℕ) (n : ℕ) (P : FoundRight D r
       ∙ ap (λ (m : ℕ). fill N back R.place (from_of N R.tie) R.alive (R.tie ∷ R.rest) ++ drop m c) (sym size)
 
   -- the last row of next: given where the chain handed in is not listed
-  unlisted-given : (c : List ℕ) → NoneGiven (first_tests D r A c) → member (take n c) (listing D n) ≡ false → first_given (next_tests D r A c) ≡ verdict.Refused NotListed 0
+  unlisted-given : (c : List ℕ) → NoneGiven (first_tests D r A c) → member (take n c) (listing D n) ≡ false → first_given (next_tests D r A c) ≡ at NotListed 0
   unfolding next_tests not_listed first_given
   unlisted-given c passed m = given_behind (first_tests D r A c) (not_listed D r c ∷ []) passed ∙ (rw (P.found, m))
 
@@ -195,7 +197,7 @@ module _ (D : Question) (r : ℕ) (A T : List ℕ) (n : ℕ) (P : FoundRight D r
   listed-passes c passed m =
       (none-append (first_tests D r A c) _).1 (passed, (none_one (not_listed D r c)).1 (rw (P.found, (member_law (take n c) (listing D n)).1 m)))
 
-  pub next_meets : (c c' : List ℕ) (x : Next) → n ≤ length c → NoneGiven (first_tests D r A c) → Followed N step_back n D.to at_t c x c'
+  pub next_meets : (c c' : List ℕ) (x : Result Next Refused) → n ≤ length c → NoneGiven (first_tests D r A c) → Followed N step_back n D.to at_t c x c'
       → Meets (next D r A c) (said_next x) c'
   unfolding next
   next_meets c c' x room passed F =
@@ -204,8 +206,8 @@ module _ (D : Question) (r : ℕ) (A T : List ℕ) (n : ℕ) (P : FoundRight D r
       long_enough : length (take n c) ≡ n
       long_enough = length-take-le n c room
 
-      listed : (o : Option Raise) → Memᴰ (take n c) (listing D n) → raise N back D.to end 0 (take n c) ≡ o → x ≡ answer_of (raise_seen o)
-          → c' ≡ left_by N back c (raise_seen o) → Meets (judged (next_tests D r A c) c (later D c (status D r))) (said_next x) c'
+      listed : (o : Option Raise) → Memᴰ (take n c) (listing D n) → raise N back D.to end 0 (take n c) ≡ o → x ≡ answer_of (Ok (raise_seen o))
+          → c' ≡ left_by N back c (Ok (raise_seen o)) → Meets (judged (next_tests D r A c) c (later D c (status D r))) (said_next x) c'
       listed none m e f g =
           rw (judged-none c (later D c (status D r)) _ (listed-passes c passed m), P.found, next-is (take n c) m, e, f) (record { answers = refl; leaves = g })
       listed (some R) m e f g =

@@ -1,42 +1,42 @@
 -- What the work of first and next asks for; and what next answers and leaves, by what is seen of the chain that stands in the buffer: over any step
 -- back.
-use Rattle.std.specs.Prelude.{ℕ, suc, ◌≤◌, ◌<◌, List, ◌∷◌, ◌≡◌, length, take, drop}
-use Rattle.walk.specs.declared.Network as network
-use Rattle.walk.specs.declared.Ask.{Ask}
+use Rattle.std.specs.Prelude.{ℕ, suc, ◌<◌, List, ◌∷◌, ◌≡◌, take, drop, Option, Some, None, Result, Ok, Err}
+use Rattle.walk.specs.declared.Refused.{Refused}
 use Rattle.walk.specs.declared.Refusal.TheVariants.{NotListed}
 use Rattle.walk.specs.declared.Next.{Next}
-use Rattle.walk.specs.declared.Next.TheVariants.{Chain, End, Refused}
-use Rattle.walk.specs.Ceilings.{ceilings}
+use Rattle.walk.specs.declared.Next.TheVariants.{Chain, End}
 use Rattle.walk.specs.Network.{Network, ties, from_of}
+use Rattle.walk.specs.Answers.{network_of}
 use Rattle.walk.proofs.Back.{fill, goes, raise}
-use Rattle.back.specs.declared.look.Seen.{Seen}
-use Rattle.back.specs.declared.look.Seen.TheVariants.{Unlisted, Last, At}
-use Rattle.back.specs.Over.{Ready}
+use Rattle.rounds.specs.declared.lent.Lent.{Lent}
+use Rattle.back.specs.declared.ground.Ground.{Ground}
+use Rattle.back.specs.declared.look.Raised.{Raised}
+use Rattle.back.specs.declared.look.Unlisted.{Unlisted}
+use Rattle.back.specs.Over.{over_tie}
+use Rattle.back.specs.Ground.{net, back}
 use Rattle.back.specs.Chain.{Fillable, seen}
 
--- what refusals 1 to 10 leave where the least length is k: columns and area, the ends, and room for a chain in the buffer c
-pub record Cleared (n : network.Network) (states ties : ℕ) (a : Ask) (from to sets A : List ℕ) (k : ℕ) (c : List ℕ) : Type 0 where
-  pub ready : Ready n states ties from to sets A
-  pub from_in : a.from < n.marks
-  pub to_in : a.to < n.marks
-  pub few : k < ceilings.unreached
-  pub room : k ≤ length c
+-- the ground g is that of what is lent, with the area A
+pub record Over (l : Lent) (A : List ℕ) (g : Ground) : Type 0 where
+  pub marks_are : g.words.network.marks ≡ l.question.network.marks
+  pub net_is : net g ≡ network_of l.question.network l.question.from.now l.question.to.now l.question.kinds.now
+  pub back_is : back g ≡ over_tie l.steps.table A l.question.condition.states l.question.from.now l.question.kinds.now
 
 -- the answer, and what is left of the buffer c
-abbrev pub answer_of : Seen → Next
-answer_of Unlisted = Refused NotListed 0
-answer_of Last = End
-answer_of (At i e s) = Chain
+abbrev pub answer_of : Result (Option Raised) Unlisted → Result Next Refused
+answer_of (Err u) = Err (record { refusal = NotListed; place = 0 })
+answer_of (Ok None) = Ok End
+answer_of (Ok (Some R)) = Ok Chain
 
 module _ (N : Network) (back : ℕ → ℕ → ℕ → ℕ) where
   -- the tie e is put at place i, and the places before it are filled
   abbrev pub raised_in : ℕ → ℕ → ℕ → List ℕ → List ℕ
   raised_in i e s c = fill N back i (from_of N e) s (e ∷ drop (suc i) c)
 
-  abbrev pub left_by : List ℕ → Seen → List ℕ
-  left_by c Unlisted = c
-  left_by c Last = c
-  left_by c (At i e s) = raised_in i e.0 s c
+  abbrev pub left_by : List ℕ → Result (Option Raised) Unlisted → List ℕ
+  left_by c (Err u) = c
+  left_by c (Ok None) = c
+  left_by c (Ok (Some R)) = raised_in R.place R.taken.tie.0 R.taken.alive c
 
   -- the place is one of n, and the places before it can be filled
   pub record Raises (n i e s : ℕ) : Type 0 where
@@ -44,16 +44,16 @@ module _ (N : Network) (back : ℕ → ℕ → ℕ → ℕ) where
     pub tie_in : e < ties N
     pub fillable : Fillable N back i (from_of N e) s
 
-  abbrev pub Raisable : ℕ → Seen → Type 0
-  Raisable n Unlisted = Unit {0}
-  Raisable n Last = Unit {0}
-  Raisable n (At i e s) = Raises n i e.0 s
+  abbrev pub Raisable : ℕ → Result (Option Raised) Unlisted → Type 0
+  Raisable n (Err u) = Unit {0}
+  Raisable n (Ok None) = Unit {0}
+  Raisable n (Ok (Some R)) = Raises n R.place R.taken.tie.0 R.taken.alive
 
   -- what is seen of the first n words, from t with the states of S alive there
-  abbrev pub seen_in : ℕ → ℕ → ℕ → List ℕ → Seen
+  abbrev pub seen_in : ℕ → ℕ → ℕ → List ℕ → Result (Option Raised) Unlisted
   seen_in n t S c = seen (goes N back t S 0 (take n c)) (raise N back t S 0 (take n c))
 
   -- next answered x and left c'
-  pub record Followed (n t S : ℕ) (c : List ℕ) (x : Next) (c' : List ℕ) : Type 0 where
+  pub record Followed (n t S : ℕ) (c : List ℕ) (x : Result Next Refused) (c' : List ℕ) : Type 0 where
     pub answers : x ≡ answer_of (seen_in n t S c)
     pub leaves : c' ≡ left_by c (seen_in n t S c)

@@ -36,9 +36,9 @@ use denote.Triple.Walked.{says}
 use Rattle.walk.specs.declared.Move.{Move}
 use Rattle.walk.specs.contracts.Move as Mv
 use Rattle.moves.specs.Gathering.{gathered}
-use Rattle.moves.specs.declared.Gathered.{Gathered}
-use Rattle.moves.specs.contracts.Gathered as G
-use Rattle.moves.proofs.Gathered.TheLaws as G'
+use Rattle.tables.specs.declared.gathered.Gathered.{Gathered}
+use Rattle.tables.specs.contracts.gathered.Gathered as G
+use Rattle.tables.proofs.gathered.Gathered.TheLaws as G'
 use Rattle.moves.proofs.Gathers.{Gather, gathers}
 use Rattle.moves.proofs.gather.Symbol.{name as #gather}
 use Rattle.byhand.proofs.Arguments.{lfts, share, shares, token_out, token_in, owns_split, owns_join, after, early, middle, late, last, after_args, after_vals, args_with, vals_with, Ends, end, end_said}

@@ -2,12 +2,12 @@
 // a list that is too long is lent as such; past the array's end only the number of moves counts.
 
 ghost use Rattle.walk.specs.Calls.{start, round, first, next};
-ghost use Rattle.walk.specs.Answers.{question, said_first, said_next, Meets};
+ghost use Rattle.walk.specs.Answers.{asked, said_first, said_next, Meets};
 ghost use Rattle.desk.specs.Answers.{said_prepared};
 ghost use Rattle.desk.specs.Held.{rows_of};
 
-use crate::{Prepared, Rounds, lent};
-use walk::{Ask, Condition, First, Move, Network, Next};
+use crate::{Prepared, Rounds};
+use walk::{Condition, First, Move, Next, Question, Refused};
 
 #[derive(Clone, Copy)]
 pub struct Held {}
@@ -17,140 +17,50 @@ impl Held {
 }
 
 pub fn start(
-    network: Network,
-    condition: Condition,
-    ask: Ask,
-    from: &[u16],
-    to: &[u16],
-    kinds: &[u32],
+    question: &Question,
     rows: [Move; Held::ROWS],
     moves: usize,
     area: &mut [u16],
-) -> Prepared
-    ensures { Meets
-        (start
-        (question network condition ask from.now to.now kinds.now (rows_of moves rows))
-        area.old)
-        (said_prepared result)
-        area.new }
+) -> Result<Prepared, Refused>
+    ensures { Meets (start (asked question.now (rows_of moves rows)) area.old) (said_prepared result) area.new }
 {
-    lent::start(
-        network,
-        condition,
-        ask,
-        from,
-        to,
-        kinds,
-        rows,
-        moves::at_most(moves, Held::ROWS),
-        area,
-    )
+    Rounds::start(question, &rows[..moves.min(Held::ROWS)], area)
 }
 
 pub fn round(
     before: Rounds,
-    network: Network,
-    condition: Condition,
-    ask: Ask,
-    from: &[u16],
-    to: &[u16],
-    kinds: &[u32],
+    question: &Question,
     rows: [Move; Held::ROWS],
     moves: usize,
     area: &mut [u16],
-) -> Prepared
-    ensures { Meets
-        (round
-        (question network condition ask from.now to.now kinds.now (rows_of moves rows))
-        before.done
-        area.old)
-        (said_prepared result)
-        area.new }
+) -> Result<Prepared, Refused>
+    ensures { Meets (round (asked question.now (rows_of moves rows)) before.done area.old) (said_prepared result) area.new }
 {
-    lent::round(
-        before,
-        network,
-        condition,
-        ask,
-        from,
-        to,
-        kinds,
-        rows,
-        moves::at_most(moves, Held::ROWS),
-        area,
-    )
+    before.round(question, &rows[..moves.min(Held::ROWS)], area)
 }
 
 pub fn first(
     after: Rounds,
-    network: Network,
-    condition: Condition,
-    ask: Ask,
-    from: &[u16],
-    to: &[u16],
-    kinds: &[u32],
+    question: &Question,
     rows: [Move; Held::ROWS],
     moves: usize,
     area: &[u16],
     chain: &mut [u16],
-) -> First
-    ensures { Meets
-        (first
-        (question network condition ask from.now to.now kinds.now (rows_of moves rows))
-        after.done
-        area.now
-        chain.old)
-        (said_first result)
-        chain.new }
+) -> Result<First, Refused>
+    ensures { Meets (first (asked question.now (rows_of moves rows)) after.done area.now chain.old) (said_first result) chain.new }
 {
-    lent::first(
-        after,
-        network,
-        condition,
-        ask,
-        from,
-        to,
-        kinds,
-        rows,
-        moves::at_most(moves, Held::ROWS),
-        area,
-        chain,
-    )
+    after.first(question, &rows[..moves.min(Held::ROWS)], area, chain)
 }
 
 pub fn next(
     after: Rounds,
-    network: Network,
-    condition: Condition,
-    ask: Ask,
-    from: &[u16],
-    to: &[u16],
-    kinds: &[u32],
+    question: &Question,
     rows: [Move; Held::ROWS],
     moves: usize,
     area: &[u16],
     chain: &mut [u16],
-) -> Next
-    ensures { Meets
-        (next
-        (question network condition ask from.now to.now kinds.now (rows_of moves rows))
-        after.done
-        area.now
-        chain.old)
-        (said_next result)
-        chain.new }
+) -> Result<Next, Refused>
+    ensures { Meets (next (asked question.now (rows_of moves rows)) after.done area.now chain.old) (said_next result) chain.new }
 {
-    lent::next(
-        after,
-        network,
-        condition,
-        ask,
-        from,
-        to,
-        kinds,
-        rows,
-        moves::at_most(moves, Held::ROWS),
-        area,
-        chain,
-    )
+    after.next(question, &rows[..moves.min(Held::ROWS)], area, chain)
 }

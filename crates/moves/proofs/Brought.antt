@@ -5,7 +5,7 @@ use Prim.Native.Nat.{ℕ, zero, suc, ◌+◌, ◌*◌, ◌<◌, ◌≤◌}
 use mathlib.Core.Path.{◌≡◌, refl, sym, ◌∙◌, ap, subst}
 use mathlib.Core.Bool.{Bool, true, false}
 use mathlib.Core.List.{List, [], ◌∷◌}
-use native.Mathlib.Nat.{not-suc-le-zero}
+use native.Mathlib.Nat.{not-suc-le-zero, min-eq_left}
 use native.Mathlib.Omega.{arith}
 use lib.Dec.{ltb}
 use lib.ListN.{length, get_or, set, length-set, length-replicate}
@@ -19,8 +19,7 @@ use Rattle.walk.proofs.Numbers.{length-table, table-ext}
 use Rattle.walk.proofs.TooManyMoves.{StandsFor}
 use Rattle.tables.specs.Lent.{move_of, moves_of}
 use Rattle.moves.specs.Gathering.{blank, put, filled, gathered}
-use Rattle.moves.specs.declared.Gathered.{Gathered}
-use Rattle.moves.proofs.Most.{most_all}
+use Rattle.tables.specs.declared.gathered.Gathered.{Gathered}
 
 -- one move written
 length-put : (w : List ℕ) (j : ℕ) (m : Move) → length (put w j m) ≡ length w
@@ -95,7 +94,7 @@ list_of g = moves_of g.count g.numbers
 pub brought : (ms : List Move) → StandsFor (list_of (gathered ms)) ms
 brought ms = record {
   same = λ l.
-      ap (λ (k : ℕ). moves_of (length ms) (filled k ms)) (most_all (length ms) ceilings.moves l)
+      ap (λ (k : ℕ). moves_of (length ms) (filled k ms)) (min-eq_left l)
       ∙ table-ext (length ms) (move_of (filled (length ms) ms)) (λ i. get_or ms i no_move) (λ i h. stands (length ms) ms i h l) ∙ all_of ms;
   many = λ l. subst (λ (k : ℕ). ceilings.moves < k) (sym (length-table (length ms) _)) l;
 }

@@ -32,10 +32,10 @@ use Rattle.walk.specs.declared.Move.{Move}
 use Rattle.walk.specs.contracts.Move as T
 use Rattle.walk.proofs.Move.TheLaws as T'
 use Rattle.moves.specs.Gathering.{gathered}
-use Rattle.moves.specs.declared.Gathered.{Gathered}
+use Rattle.tables.specs.declared.gathered.Gathered.{Gathered}
 use Rattle.byhand.proofs.Params.{slice}
-use Rattle.moves.specs.contracts.Gathered as G
-use Rattle.moves.proofs.Gathered.TheLaws as G'
+use Rattle.tables.specs.contracts.gathered.Gathered as G
+use Rattle.tables.proofs.gathered.Gathered.TheLaws as G'
 use Rattle.moves.specs.contracts.gather as gather
 
 module _ {M : Type 1} {𝓤 : Ura M} (𝓛 : Logic 𝓤) (mem : Memory → SProp 𝓤) (run : Routine → Fun 𝓤) where

@@ -1,3 +1,2 @@
 pub mod Brought
 pub mod Gathers
-pub mod Most

@@ -1,13 +1,9 @@
 -- The numbers of a list of moves in one array, in the order of the list, as far as there is room.
-use Rattle.std.specs.Prelude.{ℕ, zero, suc, ◌+◌, ◌*◌, cond, List, ltb, length, get_or, set, replicate}
+use Rattle.std.specs.Prelude.{ℕ, zero, suc, ◌+◌, ◌*◌, min, List, length, get_or, set, replicate}
 use Rattle.walk.specs.declared.Move.{Move}
 use Rattle.walk.specs.Ceilings.{ceilings}
 use Rattle.walk.specs.Condition.{no_move}
-use Rattle.moves.specs.declared.Gathered.{Gathered}
-
--- the smaller of two numbers
-abbrev pub at_most : ℕ → ℕ → ℕ
-at_most n most = cond (ltb n most) n most
+use Rattle.tables.specs.declared.gathered.Gathered.{Gathered}
 
 -- the array with the numbers of move j written
 abbrev pub put : List ℕ → ℕ → Move → List ℕ
@@ -22,4 +18,4 @@ filled zero ms = blank
 filled (suc j) ms = put (filled j ms) j (get_or ms j no_move)
 
 abbrev pub gathered : List Move → Gathered
-gathered ms = record { count = length ms; numbers = filled (at_most (length ms) ceilings.moves) ms }
+gathered ms = record { count = length ms; numbers = filled (min (length ms) ceilings.moves) ms }

@@ -11,16 +11,14 @@ use native.Mathlib.Nat.{not-suc-le-zero, le_antisymm}
 use lib.Dec.{ltb, eqb}
 use lib.ListN.{length, get_or, take}
 use borrow.Author.Tests.{eqb-true, eqb-false, ltb-true, ltb-false, not-true}
-use Rattle.walk.specs.declared.Network as network
-use Rattle.walk.specs.declared.Condition as condition
-use Rattle.walk.specs.declared.Ask.{Ask}
+use Rattle.walk.specs.declared.Question as lent
 use Rattle.walk.specs.declared.Move.{Move}
 use Rattle.walk.specs.Numbers.{has, ◌and◌}
 use Rattle.walk.specs.Network.{Network}
 use Rattle.walk.specs.Condition.{Condition, starts}
 use Rattle.walk.specs.Question.{Question, usable, pairs, right}
 use Rattle.walk.specs.Demands.{Accepted}
-use Rattle.walk.specs.Answers.{question}
+use Rattle.walk.specs.Answers.{asked}
 use Rattle.walk.proofs.Numbers.{Yes, and_in, and_of, eqb_of, any_below_in, any_below_of}
 use Rattle.walk.proofs.Executable.{Sound, Arc, arc_in, leads_in, leads_of}
 use Rattle.walk.proofs.Words.{unreached, Local, local_law}
@@ -144,23 +142,23 @@ module _ (N : Network) (C : Condition) (s r : ℕ) (A : List ℕ) (ok : Sound N 
             (λ (_, y). (let w : get_or o q 0 ≡ 65535 = y in omega arith)) (opens q h))
             (M.small q h)
 
-module _ (n : network.Network) (c : condition.Condition) (a : Ask) (from to sets T A : List ℕ) (r : ℕ) where
+module _ (Z : lent.Question) (T A : List ℕ) (r : ℕ) where
   -- the marks before v pass
   abbrev pub Passed : ℕ → Type 0
-  Passed v = Every n c a from to sets T (λ D. (u : ℕ) → u < v → At D.network D.condition D.from r A u)
+  Passed v = Every Z T (λ D. (u : ℕ) → u < v → At D.network D.condition D.from r A u)
 
   pub passed_none : Passed 0
   passed_none m tab acc u h = absurd (not-suc-le-zero h)
 
-  module _ (size : Sized n.marks n.kinds c.states A) (few : r < 65535) where
+  module _ (size : Sized Z.network.marks Z.network.kinds Z.condition.states A) (few : r < 65535) where
     abbrev D : List Move → Question
-    D m = question n c a from to sets m
+    D m = asked Z m
 
-    test : (m : List Move) → Accepted (D m) → Local (D m).network (D m).condition a.from r (at (D m).condition A) ↔ (take (pairs (D m)) A ≡ right (D m) r)
+    test : (m : List Move) → Accepted (D m) → Local (D m).network (D m).condition Z.ask.from r (at (D m).condition A) ↔ (take (pairs (D m)) A ≡ right (D m) r)
     unfolding right usable
     test m acc =
-        let R = area-right (D m).network (D m).condition a.from r A size.room in
-        let L = local_law (D m).network (D m).condition a.from r (sound (D m) acc) few (at (D m).condition A) in
+        let R = area-right (D m).network (D m).condition Z.ask.from r A size.room in
+        let L = local_law (D m).network (D m).condition Z.ask.from r (sound (D m) acc) few (at (D m).condition A) in
         (λ l. R.1 (L.0 l), λ e. L.1 (R.0 e))
 
     -- the table decides the arcs, and so the right area
@@ -180,7 +178,7 @@ module _ (n : network.Network) (c : condition.Condition) (a : Ask) (from to sets
             steps = leads_of (D m').network (D m').condition (sound (D m') acc') x.tie p q k tk (sym (tab' k p q k32 p32) ∙ tab k p q k32 p32 ∙ f);
           }
 
-    pub right-by-table : (m : List Move) → Tabled T (D m).condition → Accepted (D m) → take (pairs (D m)) A ≡ right (D m) r → IsRight n c a from to sets T r A
+    pub right-by-table : (m : List Move) → Tabled T (D m).condition → Accepted (D m) → take (pairs (D m)) A ≡ right (D m) r → IsRight Z T r A
     unfolding starts
     right-by-table m tab acc e m' tab' acc' =
         let L = (test m acc).1 e in
@@ -191,53 +189,53 @@ module _ (n : network.Network) (c : condition.Condition) (a : Ask) (from to sets
           small = L.small;
         })
 
-    pub passed-all : (v : ℕ) → v ≡ n.marks → Passed v → Tells n c a from to sets T true r A
+    pub passed-all : (v : ℕ) → v ≡ Z.network.marks → Passed v → Tells Z T true r A
     passed-all v e P m tab acc =
-        (λ _. (test m acc).0 (at_local (D m).network (D m).condition a.from r A (sound (D m) acc) (λ u h. P m tab acc u (rw (← e) at h))), λ _. refl)
+        (λ _. (test m acc).0 (at_local (D m).network (D m).condition Z.ask.from r A (sound (D m) acc) (λ u h. P m tab acc u (rw (← e) at h))), λ _. refl)
 
-    module _ (S L : List ℕ) (ties : ℕ) (lead : Leads T S c.states) (liv : Alive L A n.marks c.states 0 r) (froms : length from ≡ ties)
-        (v i z : ℕ) (o b W : List ℕ) (hv : v < n.marks)
-        (cut : Cut to ties v i) (cut' : Cut to ties (suc v) z) (op : Row o c.states (opening a.from c.start v))
-        (low : Lowered (Between i (OfTie T S L A c.states from sets) z) o b) (eW : W ≡ row A c.states v) where
+    module _ (S L : List ℕ) (ties : ℕ) (lead : Leads T S Z.condition.states) (liv : Alive L A Z.network.marks Z.condition.states 0 r) (froms : length Z.from.now ≡ ties)
+        (v i z : ℕ) (o b W : List ℕ) (hv : v < Z.network.marks)
+        (cut : Cut Z.to.now ties v i) (cut' : Cut Z.to.now ties (suc v) z) (op : Row o Z.condition.states (opening Z.ask.from Z.condition.start v))
+        (low : Lowered (Between i (OfTie T S L A Z.condition.states Z.from.now Z.kinds.now) z) o b) (eW : W ≡ row A Z.condition.states v) where
       arcs : (m : List Move) → Tabled T (D m).condition → Accepted (D m) → Lowered (From (D m).network (D m).condition A 0 r v) o b
       arcs m tab acc =
           offered (D m).network (D m).condition T S L A 0 r (sound (D m) acc) size.kinds_few size.narrow tab lead liv v i z o b
-          (subst (λ (k : ℕ). Cut to k v i) (sym froms) cut) (subst (λ (k : ℕ). Cut to k (suc v) z) (sym froms) cut') low
+          (subst (λ (k : ℕ). Cut Z.to.now k v i) (sym froms) cut) (subst (λ (k : ℕ). Cut Z.to.now k (suc v) z) (sym froms) cut') low
 
-      in_row : (q : ℕ) → q < c.states → get_or W q 0 ≡ get_or A (v * c.states + q) 0
-      in_row q h = ap (λ (l : List ℕ). get_or l q 0) eW ∙ row_at A c.states v q h
+      in_row : (q : ℕ) → q < Z.condition.states → get_or W q 0 ≡ get_or A (v * Z.condition.states + q) 0
+      in_row q h = ap (λ (l : List ℕ). get_or l q 0) eW ∙ row_at A Z.condition.states v q h
 
-      wide : length W ≡ c.states
-      wide = ap (λ (l : List ℕ). length l) eW ∙ row-length A c.states v n.marks hv size.room
+      wide : length W ≡ Z.condition.states
+      wide = ap (λ (l : List ℕ). length l) eW ∙ row-length A Z.condition.states v Z.network.marks hv size.room
 
       passed-more : differ W b (length W) ≡ false → Passed v → Passed (v + 1)
       passed-more e P m tab acc u h = by (ltb u v) refl
         where
-          same : (q : ℕ) → q < c.states → get_or A (v * c.states + q) 0 ≡ get_or b q 0
+          same : (q : ℕ) → q < Z.condition.states → get_or A (v * Z.condition.states + q) 0 ≡ get_or b q 0
           same q l = sym (in_row q l) ∙ go (eqb (get_or W q 0) (get_or b q 0)) refl
             where
               go : (t : Bool) → eqb (get_or W q 0) (get_or b q 0) ≡ t → get_or W q 0 ≡ get_or b q 0
               go true f = eqb-true _ _ f
               go false f = absurd (false≢true (sym e ∙ any_below_of (length W) _ q (omega (arith, wide)) (ap not f)))
 
-          by : (t : Bool) → ltb u v ≡ t → At (D m).network (D m).condition a.from r A u
+          by : (t : Bool) → ltb u v ≡ t → At (D m).network (D m).condition Z.ask.from r A u
           by true f = P m tab acc u (ltb-true u v f)
           by false f =
               let y : v ≡ u = omega (arith, ltb-false u v f) in
-              subst (λ (k : ℕ). At (D m).network (D m).condition a.from r A k) y
-              (at_of (D m).network (D m).condition a.from r A (sound (D m) acc) few size.narrow v o b op (arcs m tab acc) same)
+              subst (λ (k : ℕ). At (D m).network (D m).condition Z.ask.from r A k) y
+              (at_of (D m).network (D m).condition Z.ask.from r A (sound (D m) acc) few size.narrow v o b op (arcs m tab acc) same)
 
-      passed-not : differ W b (length W) ≡ true → Tells n c a from to sets T false r A
+      passed-not : differ W b (length W) ≡ true → Tells Z T false r A
       passed-not e m tab acc = (λ f. absurd (false≢true f), λ f. absurd (wrong f))
         where
           wrong : take (pairs (D m)) A ≡ right (D m) r → ⊥
           wrong f =
               let (q, h, t) = any_below_in (length W) _ e in
-              let k : q < c.states = omega (arith, wide) in
-              let M = local_at (D m).network (D m).condition a.from r A (sound (D m) acc) ((test m acc).1 f) v hv in
-              let g = at-is (D m).network (D m).condition a.from r A (sound (D m) acc) few size.narrow v o b op (arcs m tab acc) M q k in
+              let k : q < Z.condition.states = omega (arith, wide) in
+              let M = local_at (D m).network (D m).condition Z.ask.from r A (sound (D m) acc) ((test m acc).1 f) v hv in
+              let g = at-is (D m).network (D m).condition Z.ask.from r A (sound (D m) acc) few size.narrow v o b op (arcs m tab acc) M q k in
               eqb-false _ _ (not-true _ t) (in_row q k ∙ g)
 
       -- the comparison of the row answered x
-      pub compared : (x : Bool) → x ≡ differ W b (length W) → (x ≡ false → Passed v → Passed (v + 1)) × (x ≡ true → Tells n c a from to sets T false r A)
+      pub compared : (x : Bool) → x ≡ differ W b (length W) → (x ≡ false → Passed v → Passed (v + 1)) × (x ≡ true → Tells Z T false r A)
       compared x e = (λ f. passed-more (sym e ∙ f), λ f. passed-not (sym e ∙ f))

@@ -7,7 +7,6 @@ use mathlib.Core.List.{List, ◌++◌}
 use native.Mathlib.Numerals.{add-one}
 use lib.ListN.{take, drop}
 use lib.Seq.{take_at}
-use Rattle.walk.specs.declared.Refusal.{Refusal}
 use Rattle.walk.specs.declared.Status.{Status}
 use Rattle.walk.specs.Question.{Question, usable, pairs, right, status}
 use Rattle.walk.specs.Refusals.{number, is_going, start_tests, round_tests}
@@ -15,7 +14,8 @@ use Rattle.walk.specs.Calls.{Answer, refused, gives, Progress, Done, leave, prog
 use Rattle.walk.specs.Answers.{Meets}
 use Rattle.walk.proofs.Areas.{length-area}
 use Rattle.walk.proofs.Refusals.{judged-none}
-use Rattle.tables.specs.declared.tests.Verdict.TheVariants.{Passed, Refused}
+use Rattle.std.specs.Prelude.{Ok, Err}
+use Rattle.walk.specs.declared.Refused.{Refused}
 use Rattle.tables.specs.Tests.{first_given}
 use Rattle.tables.proofs.Verdicts.{refused-answers, passed_none}
 use Rattle.rounds.specs.Judged.{turned}
@@ -25,23 +25,24 @@ meets_as d d' x w e M = rw e M
 
 module _ (D : Question) (w : List ℕ) where
   -- the tests refuse
-  pub start-refused : (n : Refusal) (p : ℕ) → first_given (start_tests D w) ≡ Refused n p → Meets (start D w) (refused (number n) p) w
+  pub start-refused : (e : Refused) → first_given (start_tests D w) ≡ Err e → Meets (start D w) (refused (number e.refusal) e.place) w
   unfolding start
-  start-refused n p e = meets_as _ _ _ w (refused-answers w _ (start_tests D w) n p e) (record { answers = refl; leaves = refl })
+  start-refused e f = meets_as _ _ _ w (refused-answers w _ (start_tests D w) e.refusal e.place f) (record { answers = refl; leaves = refl })
 
-  pub round-refused : (r : ℕ) (n : Refusal) (p : ℕ) → first_given (round_tests D r w) ≡ Refused n p → Meets (round D r w) (refused (number n) p) w
+  pub round-refused : (r : ℕ) (e : Refused) → first_given (round_tests D r w) ≡ Err e → Meets (round D r w) (refused (number e.refusal) e.place) w
   unfolding round
-  round-refused r n p e = meets_as _ _ _ w (refused-answers w _ (round_tests D r w) n p e) (record { answers = refl; leaves = refl })
+  round-refused r e f = meets_as _ _ _ w (refused-answers w _ (round_tests D r w) e.refusal e.place f) (record { answers = refl; leaves = refl })
 
   -- the tests pass
-  pub start-passed : (S : Status) (w' : List ℕ) → first_given (start_tests D w) ≡ Passed → S ≡ status D 0 → w' ≡ right D 0 ++ drop (pairs D) w → Meets
+  pub start-passed : (S : Status) (w' : List ℕ) → first_given (start_tests D w) ≡ Ok tt → S ≡ status D 0 → w' ≡ right D 0 ++ drop (pairs D) w → Meets
       (start D w) (gives (record { done = 0; status = S })) w'
   unfolding start prepared progress
   start-passed S w' e f g =
       meets_as _ _ _ w' (judged-none w _ (start_tests D w) (passed_none _ e))
       (record { answers = ap (λ (s : Status). gives (record { done = 0; status = s })) f; leaves = g })
 
-  pub round-passed : (r : ℕ) (x : Answer Progress) (w' : List ℕ) → first_given (round_tests D r w) ≡ Passed → Meets (turned D r w) x w' → Meets (round D r w) x w'
+  pub round-passed : (r : ℕ) (x : Answer Progress) (w' : List ℕ) → first_given (round_tests D r w) ≡ Ok tt → Meets (turned D r w) x w'
+      → Meets (round D r w) x w'
   unfolding round turned
   round-passed r x w' e M = meets_as _ _ x w' (judged-none w _ (round_tests D r w) (passed_none _ e)) M
 

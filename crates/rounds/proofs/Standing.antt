@@ -1,17 +1,21 @@
--- The status. The loop over the states of t finds the least word of an accepting state, and the loop over the words whether one is r; over a right
+-- The status. The loop over the states of t finds the least word of an accepting state, and the search of the words whether one is r; over a right
 -- area these are the two questions that the definition of the status asks.
-use Prim.Native.Nat.{ℕ, suc, ◌+◌, ◌≤◌, ◌<◌}
+use Prim.Native.Nat.{ℕ, zero, suc, min, ◌+◌, ◌≤◌, ◌<◌}
 use mathlib.Core.Path.{◌≡◌, refl, sym, ◌∙◌, ap, ap₂, fun_ext}
-use mathlib.Core.Bool.{Bool, true, false, false≢true, ◌||◌, cond}
+use mathlib.Core.Bool.{Bool, true, false, false≢true, ◌||◌}
 use mathlib.Core.List.{List}
-use mathlib.Core.Logic.{◌⊎◌, inl, inr, ⊎_elim}
+use mathlib.Core.Logic.{⊎_elim}
 use mathlib.Mathlib.Data.Bool.Basic.{or_inl, or_inr}
 use native.Mathlib.Omega.{arith}
+use native.Mathlib.Nat.{eq-or-lt_of_le}
 use native.Mathlib.Numerals.{add-one}
+use Rattle.std.specs.List.{list_any}
+use Rattle.std.proofs.Math.Bool.{or_comm}
+use Rattle.std.proofs.lemmas.List.Folds.{list_any_more}
 use lib.Dec.{ltb, eqb}
 use lib.ListN.{length, get_or, take}
 use lib.Seq.{get_or-take}
-use borrow.Author.Tests.{eqb-true, ltb-true, ltb-false, lt-ltb}
+use borrow.Author.Tests.{eqb-true, ltb-true, lt-ltb}
 use Rattle.walk.specs.Numbers.{has, ◌and◌, any_below, least}
 use Rattle.walk.specs.Condition.{accepts}
 use Rattle.walk.specs.Area.{area, word, pairs_at, smallest}
@@ -24,11 +28,11 @@ use Rattle.rows.specs.Rows.{row}
 use Rattle.rounds.specs.Standing.{nearest, stands, standing}
 use Rattle.rows.proofs.RowLaws.{row_at}
 
--- the loop over the states: k is the least word, or b
 -- some state of the set below n has the word d
 abbrev has_word : List ℕ → ℕ → ℕ → ℕ → Bool
 has_word words set n d = any_below n (λ q. has set q and eqb (get_or words q 0) d)
 
+-- the loop over the states: k is the least word, or b
 pub record Near (words : List ℕ) (set n b k : ℕ) : Type 0 where
   pub within : k ≤ b
   pub least : Least (has_word words set n) b k
@@ -37,41 +41,32 @@ pub near_none : (words : List ℕ) (set b : ℕ) → Near words set 0 b b
 unfolding any_below
 near_none words set b = record { within = omega arith; least = record { passes = λ h. absurd (omega arith); none_before = λ m h t. false≢true t } }
 
-pub near_more : (words : List ℕ) (set n b k w : ℕ) (t : Bool) → t ≡ has set n → w ≡ get_or words n 0 → Near words set n b k → Near words set (n + 1) b
-    (cond (t and ltb w k) w k)
-unfolding ◌and◌
-near_more words set n b k w t et ew N = go t et (ltb w k) refl
-  where
-    more : (d : ℕ) → has_word words set (n + 1) d ≡ ((has set n and eqb (get_or words n 0) d) || has_word words set n d)
-    more d = any-more n (λ q. has set q and eqb (get_or words q 0) d)
+-- one state more: its word counts if it is of the set
+module _ (words : List ℕ) (set n b k : ℕ) (N : Near words set n b k) where
+  abbrev w : ℕ
+  w = get_or words n 0
 
-    keep : (d : ℕ) → Yes (has_word words set n d) → Yes (has_word words set (n + 1) d)
-    keep d y = more d ∙ or_inr (has set n and eqb (get_or words n 0) d) (has_word words set n d) y
+  near_more : (k' : ℕ) → k' ≤ k → (k' < k → Yes (has set n) × (w ≡ k')) → ((d : ℕ) → d < k' → Yes (has set n) → w ≡ d → ⊥)
+      → Near words set (n + 1) b k'
+  near_more k' low new none = record {
+    within = omega arith;
+    least = record {
+      passes = λ h. more k' ∙ ⊎_elim (λ e. or_inr _ (has_word words set n k') ((rw (← e) at N.least.passes) h))
+          (λ l. let (a, e) = new l in or_inl _ (has_word words set n k') (and_of a (eqb_of e)))
+          (eq-or-lt_of_le low);
+      none_before = λ d h y. ⊎_elim (λ x. let (a, e) = and_in _ _ x in none d h a (eqb-true w d e)) (λ x. N.least.none_before d (omega arith) x)
+          (or_in (has set n and eqb w d) (has_word words set n d) (sym (more d) ∙ y));
+    };
+  }
+    where
+      more : (d : ℕ) → has_word words set (n + 1) d ≡ ((has set n and eqb w d) || has_word words set n d)
+      more d = any-more n (λ q. has set q and eqb (get_or words q 0) d)
 
-    split : (d : ℕ) → Yes (has_word words set (n + 1) d) → (Yes (has set n) × (w ≡ d)) ⊎ Yes (has_word words set n d)
-    split d y =
-        ⊎_elim (λ x. let (a, c) = and_in _ _ x in inl (a, ew ∙ eqb-true _ _ c)) (λ x. inr x)
-        (or_in (has set n and eqb (get_or words n 0) d) (has_word words set n d) (sym (more d) ∙ y))
+  pub near_skip : false ≡ has set n → Near words set (n + 1) b k
+  near_skip e = near_more k (omega arith) (λ l. absurd (omega arith)) (λ d h a _. false≢true (e ∙ a))
 
-    stay : ((d : ℕ) → d < k → Yes (has set n) → w ≡ d → ⊥) → Near words set (n + 1) b k
-    stay f = record {
-      within = N.within;
-      least = record { passes = λ h. keep k (N.least.passes h); none_before = λ d h y. ⊎_elim (λ (a, e). f d h a e) (λ x. N.least.none_before d h x) (split d y) };
-    }
-
-    go : (t : Bool) → t ≡ has set n → (u : Bool) → ltb w k ≡ u → Near words set (n + 1) b (cond (t and u) w k)
-    go false e u f = stay (λ d h a _. false≢true (e ∙ a))
-    go true e false f = let g = ltb-false w k f in stay (λ d h _ x. omega arith)
-    go true e true f =
-        let g = ltb-true w k f in
-        let i = N.within in
-        record {
-          within = omega arith;
-          least = record {
-            passes = λ _. more w ∙ or_inl (has set n and eqb (get_or words n 0) w) (has_word words set n w) (and_of (sym e) (eqb_of (sym ew)));
-            none_before = λ d h y. ⊎_elim (λ (a, x). omega arith) (λ x. N.least.none_before d (omega arith) x) (split d y);
-          };
-        }
+  pub near_word : true ≡ has set n → Near words set (n + 1) b (min k w)
+  near_word e = near_more (min k w) (omega arith) (λ l. (sym e, omega arith)) (λ d h _ x. omega arith)
 
 pub near_end : (words : List ℕ) (set n b k : ℕ) → Near words set n b k → k ≡ nearest words set n b
 unfolding nearest
@@ -107,3 +102,13 @@ module _ (D : Question) (r : ℕ) (A : List ℕ) (is_right : take (pairs D) A �
       → standing (nearest (row A D.condition.states t) D.condition.accept D.condition.states (r + 1)) r (stands A (pairs D) r) ≡ status D r
   unfolding status Area.status usable
   standing-is t e h = rw e (ap₂ (λ (b : ℕ) (x : Bool). standing b r x) (nearest-is h) stands-is)
+
+-- some of the first n words is r
+pub stands_any : (A : List ℕ) (n r : ℕ) → n ≤ length A → list_any (λ w. eqb w r) (take n A) ≡ stands A n r
+unfolding stands any_below
+stands_any A zero r h = refl
+stands_any A (suc n) r h =
+    let x = list_any (λ w. eqb w r) (take n A) in
+    let m = list_any_more (λ w. eqb w r) A n 0 h in
+    let i = stands_any A n r (omega arith) in
+    rw (← add-one, m, ← i) (or_comm x (eqb (get_or A n 0) r))

@@ -1,9 +1,12 @@
 -- What the answer of start and of a round says, in the numbers and values of document 01.
-use Rattle.walk.specs.Refusals.{number}
-use Rattle.walk.specs.Calls.{Answer, refused, gives, Progress}
-use Rattle.rounds.specs.declared.Prepared.{Prepared}
-use Rattle.rounds.specs.declared.Prepared.TheVariants.{After, Refused}
+use Rattle.std.specs.Prelude.{ℕ, Result}
+use Rattle.walk.specs.declared.Refused.{Refused}
+use Rattle.walk.specs.declared.Status.{Status}
+use Rattle.walk.specs.Calls.{Answer, Progress}
+use Rattle.walk.specs.Answers.{said}
 
-abbrev pub said_prepared : Prepared → Answer Progress
-said_prepared (After r s) = gives (record { done = r; status = s })
-said_prepared (Refused n p) = refused (number n) p
+abbrev pub progress_of : ℕ × Status → Progress
+progress_of (r, s) = record { done = r; status = s }
+
+abbrev pub said_prepared : Result (ℕ × Status) Refused → Answer Progress
+said_prepared = said progress_of

@@ -1,58 +1,45 @@
 // One round over a right area: what the pairs with the word r lead to, and no chain has reached, becomes r + 1.
 
-ghost use Rattle.std.specs.Prelude.{◌+◌, ◌<◌};
+ghost use Rattle.std.specs.Prelude.{◌+◌, ◌*◌, ◌≤◌, ◌<◌, length};
 ghost use Rattle.walk.specs.Ceilings.{ceilings};
-ghost use Rattle.rounds.specs.Judged.{Lent, IsRight, Advances};
+ghost use Rattle.rounds.specs.Judged.{IsRight, Advances};
 
+use crate::lent::Lent;
+use rows::offers::Offers;
 use tables::numbers::Mark;
-use tables::runs;
-use tables::steps::Steps;
-use walk::{Ask, Condition, Network};
+use tables::runs::Runs;
 
 // The right area for r rounds becomes the right one for r + 1.
-pub fn advance(
-    network: Network,
-    condition: Condition,
-    ask: Ask,
-    r: u16,
-    ties: usize,
-    from: &[u16],
-    to: &[u16],
-    kinds: &[u32],
-    table: &[u32; Steps::WORDS],
-    sources: &[u32; Network::KINDS],
-    area: &mut [u16],
-)
-    requires { Lent network condition ties from.now to.now kinds.now table.now sources.now area.old
-        × (r + 1 < ceilings.unreached) × IsRight network condition ask from.now to.now kinds.now table.now r area.old }
-    ensures { Advances network condition ask from.now to.now kinds.now table.now r
-        area.old area.new }
+pub fn advance(lent: &Lent, r: u16, area: &mut [u16])
+    requires { (lent.now.question.network.marks * lent.now.question.condition.states ≤ length area.old)
+        × (r + 1 < ceilings.unreached) × IsRight lent.now.question lent.now.steps.table r area.old }
+    ensures { Advances lent.now.question lent.now.steps.table r area.old area.new }
 {
-    let mut live = [0u32; Network::MARKS];
-    rows::alive::fill(&mut live, area, network.marks, condition.states, r, r + 1);
+    let question = lent.question;
+    let marks = question.network.marks;
+    let states = question.condition.states;
+    let live = rows::alive::of_marks(area, marks, states, r, r + 1);
+    let runs = Runs {
+        to: question.to,
+        marks,
+    };
     let mut first = 0;
-    let mut v = 0;
-    while v < network.marks {
-        let m = Mark::tested(v, network.marks);
-        let end = runs::end(to, ties, network.marks, m, first);
-        let at = rows::place(m, condition.states, network.marks);
-        let mut row = rows::fetch(area, at, condition.states);
-        rows::offers::into(
-            &mut row,
-            from,
-            kinds,
+    for v in 0..marks {
+        let m = Mark::tested(v, marks);
+        let end = runs.end(m, first);
+        let at = rows::place(m, states, marks);
+        let mut row = rows::fetch(area, at, states);
+        let offers = Offers {
+            network: question.network,
+            states,
+            from: question.from,
+            kinds: question.kinds,
             area,
-            table,
-            sources,
-            &live,
-            network,
-            condition.states,
-            ties,
-            first,
-            end,
-        );
-        rows::write(area, at, &row, condition.states);
+            live: &live,
+            steps: &lent.steps,
+        };
+        offers.lower_row(&mut row, first..end);
+        rows::write(area, at, &row, states);
         first = end;
-        v += 1;
     }
 }

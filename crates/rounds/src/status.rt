@@ -1,8 +1,7 @@
 // The status of the area after r rounds.
 
-ghost use Rattle.std.specs.Prelude.{cond, ◌≡◌, ◌+◌, ◌*◌, ◌≤◌, ◌<◌, ltb, length};
+ghost use Rattle.std.specs.Prelude.{◌≡◌, ◌+◌, ◌*◌, ◌≤◌, ◌<◌, length};
 ghost use Rattle.walk.specs.Ceilings.{ceilings};
-ghost use Rattle.walk.specs.Numbers.{◌and◌};
 ghost use Rattle.rows.specs.Rows.{row};
 ghost use Rattle.rounds.specs.Standing.{nearest, stands, standing};
 
@@ -10,33 +9,16 @@ use tables::numbers::{Mark, State};
 use tables::tests;
 use walk::{Condition, Status};
 
-// The lesser of two words, if the second counts.
-fn lesser(best: u16, w: u16, counts: bool) -> u16
-    ensures { result ≡ cond (counts and ltb w best) w best }
-{
-    if counts {
-        if w < best {
-            return w;
-        }
-    }
-    best
-}
-
 // The least word of an accepting state, or r + 1 if none is at most r.
 fn nearest(words: &[u16], condition: Condition, r: u16) -> u16
     requires { (length words.now ≡ condition.states) × (condition.states ≤ ceilings.states) × (r < ceilings.unreached) }
     ensures { result ≡ nearest words.now condition.accept condition.states (r + 1) }
 {
-    let states = condition.states;
     let mut best = r + 1;
-    let mut q = 0;
-    while q < states {
-        best = lesser(
-            best,
-            words[q],
-            State::tested(q, states).among(condition.accept),
-        );
-        q += 1;
+    for (q, &w) in words.iter().enumerate() {
+        if State::tested(q, condition.states).among(condition.accept) {
+            best = best.min(w);
+        }
     }
     best
 }
@@ -46,14 +28,7 @@ fn stands(area: &[u16], n: usize, r: u16) -> bool
     requires { n ≤ length area.now }
     ensures { result ≡ stands area.now n r }
 {
-    let mut i = 0;
-    while i < n {
-        if area[i] == r {
-            return true;
-        }
-        i += 1;
-    }
-    false
+    area[..n].contains(&r)
 }
 
 pub fn status(area: &[u16], marks: usize, condition: Condition, t: Mark, r: u16) -> Status
@@ -64,12 +39,10 @@ pub fn status(area: &[u16], marks: usize, condition: Condition, t: Mark, r: u16)
 {
     let states = condition.states;
     let at = rows::place(t, states, marks);
-    let end = at + states;
-    let best = nearest(&area[at..end], condition, r);
+    let best = nearest(&area[at..at + states], condition, r);
     if best <= r {
-        return Status::Found(best as usize);
-    }
-    if stands(area, tests::pairs(marks, states), r) {
+        Status::Found(usize::from(best))
+    } else if stands(area, tests::pairs(marks, states), r) {
         Status::Going
     } else {
         Status::None

@@ -1,6 +1,6 @@
 -- Lowering a row by offers: by none, by one, by those of two steps after each other, by those of a loop over the elements of a set or over
 -- numbers. A loop's invariant is that the row is the first one lowered by the offers of what was passed.
-use Prim.Native.Nat.{ℕ, ◌+◌, ◌/◌, ◌^◌, ◌≤◌, ◌<◌}
+use Prim.Native.Nat.{ℕ, ◌+◌, ◌≤◌, ◌<◌}
 use mathlib.Core.Path.{◌≡◌, refl, sym, ◌∙◌, subst, ap}
 use mathlib.Core.Bool.{Bool, true, false, false≢true}
 use mathlib.Core.List.{List}
@@ -13,7 +13,8 @@ use lib.Seq.{get_or-set_same, get_or-set_other}
 use borrow.Author.Tests.{eqb-true, eqb-false, ltb-true, ltb-false}
 use Rattle.walk.specs.Numbers.{has}
 use Rattle.walk.proofs.Numbers.{and_in}
-use Rattle.tables.proofs.SetLaws.{Walk, walk_end, has-and, has-none}
+use Rattle.tables.specs.Sets.{Lowest}
+use Rattle.tables.proofs.SetLaws.{has-and, has-none}
 use Rattle.rows.specs.Offers.{Lowered, One, Each, Between, Along}
 
 lowered_none : (P : ℕ → ℕ → Type 0) (b : List ℕ) → length b ≡ 32 → ((q w : ℕ) → P q w → ⊥) → Lowered P b b
@@ -50,32 +51,38 @@ lowered_as P R b b' L f g = record { size = L.size; keeps = L.keeps; takes = λ 
 pub each_none : (s : ℕ) (P : ℕ → ℕ → ℕ → Type 0) (b : List ℕ) → length b ≡ 32 → Lowered (Each s P 0) b b
 each_none s P b e = lowered_none (Each s P 0) b e (λ q w x. not-suc-le-zero x.1)
 
-pub each_more : (s rest n z : ℕ) (P : ℕ → ℕ → ℕ → Type 0) (b b' b'' : List ℕ) → Walk s rest n z → Lowered (Each s P n) b b' → Lowered
-    (P (n + z)) b' b'' → Lowered (Each s P (n + z + 1)) b b''
-each_more s rest n z P b b' b'' W L M = lowered_then (Each s P n) (P (n + z)) (Each s P (n + z + 1)) b b' b'' L M split
-    (λ q w x. (x.0, omega (arith, x.1), x.2, x.3)) (λ q w x. (n + z, omega arith, W.stands, x))
+pub each_more : (s at n : ℕ) (P : ℕ → ℕ → ℕ → Type 0) (b b' b'' : List ℕ) → Lowest s at n → Lowered (Each s P at) b b' → Lowered (P n) b' b''
+    → Lowered (Each s P (n + 1)) b b''
+each_more s at n P b b' b'' W L M = lowered_then (Each s P at) (P n) (Each s P (n + 1)) b b' b'' L M split
+    (λ q w x. (x.0, omega (arith, x.1, W.from), x.2, x.3)) (λ q w x. (n, omega arith, W.stands, x))
   where
-    split : (q w : ℕ) → Each s P (n + z + 1) q w → Each s P n q w ⊎ P (n + z) q w
-    split q w (i, l, t, x) = go (ltb i n) refl (eqb i (n + z)) refl
+    split : (q w : ℕ) → Each s P (n + 1) q w → Each s P at q w ⊎ P n q w
+    split q w (i, l, t, x) = go (ltb i at) refl (eqb i n) refl
       where
-        go : (c : Bool) → ltb i n ≡ c → (d : Bool) → eqb i (n + z) ≡ d → Each s P n q w ⊎ P (n + z) q w
-        go true e d f = inl (i, ltb-true i n e, t, x)
-        go false e true f = inr (subst (λ (j : ℕ). P j q w) (eqb-true i (n + z) f) x)
-        go false e false f = let no = eqb-false i (n + z) f in let ge = ltb-false i n e in absurd
-            (false≢true (sym (W.between i ge (let m : ¬ (n + z < i) = λ g. not-lt g in let ne : ¬ (i ≡ n + z) = no in omega arith)) ∙ t))
-          where
-            not-lt : n + z < i → ⊥
-            not-lt g = omega arith
+        go : (c : Bool) → ltb i at ≡ c → (d : Bool) → eqb i n ≡ d → Each s P at q w ⊎ P n q w
+        go true e d f = inl (i, ltb-true i at e, t, x)
+        go false e true f = inr (subst (λ (j : ℕ). P j q w) (eqb-true i n f) x)
+        go false e false f = let no : ¬ (i ≡ n) = eqb-false i n f in let ge = ltb-false i at e in absurd
+            (false≢true (sym (W.between i ge (let m : i < n = omega arith in m)) ∙ t))
 
-pub each_end : (s n : ℕ) (P : ℕ → ℕ → ℕ → Type 0) (b b' : List ℕ) → n ≤ 32 → 0 ≡ s / 2 ^ n → Lowered (Each s P n) b b' → Lowered (Each s P 32) b b'
-each_end s n P b b' l e L = lowered_as (Each s P n) (Each s P 32) b b' L f (λ q w x. (x.0, omega (arith, x.1), x.2, x.3))
+pub each_end : (s at : ℕ) (P : ℕ → ℕ → ℕ → Type 0) (b b' : List ℕ) → at ≤ 32 → ((i : ℕ) → at ≤ i → has s i ≡ false) → Lowered (Each s P at) b b'
+    → Lowered (Each s P 32) b b'
+each_end s at P b b' l e L = lowered_as (Each s P at) (Each s P 32) b b' L f (λ q w x. (x.0, omega (arith, x.1), x.2, x.3))
   where
-    f : (q w : ℕ) → Each s P 32 q w → Each s P n q w
-    f q w (i, m, t, x) = go (ltb i n) refl
+    f : (q w : ℕ) → Each s P 32 q w → Each s P at q w
+    f q w (i, m, t, x) = go (ltb i at) refl
       where
-        go : (c : Bool) → ltb i n ≡ c → Each s P n q w
-        go true h = (i, ltb-true i n h, t, x)
-        go false h = absurd (false≢true (sym (walk_end s n e i (ltb-false i n h)) ∙ t))
+        go : (c : Bool) → ltb i at ≡ c → Each s P at q w
+        go true h = (i, ltb-true i at h, t, x)
+        go false h = absurd (false≢true (sym (e i (ltb-false i at h)) ∙ t))
+
+-- what such a loop keeps: t is the set of the walk, whose elements from `at` on are still to come
+abbrev pub Passed : ℕ → ℕ → ℕ → (ℕ → ℕ → ℕ → Type 0) → List ℕ → List ℕ → Type 0
+Passed t at s P b b' = (t ≡ s) × Lowered (Each s P at) b b'
+
+pub passed_more : {t t' at at' s n : ℕ} {b b' b'' : List ℕ} (P : ℕ → ℕ → ℕ → Type 0) → (t' ≡ t) × (Lowest t at n × (at' ≡ n + 1))
+    → Passed t at s P b b' → Lowered (P n) b' b'' → Passed t' at' s P b b''
+passed_more {at} {s} {n} {b} {b'} {b''} P (h, (W, e)) (k, L) M = (h ∙ k, rw e (each_more s at n P b b' b'' (rw k at W) L M))
 
 -- one word lowered
 pub lower_down : (w q : ℕ) (b : List ℕ) → length b ≡ 32 → q < 32 → w < get_or b q 0 → Lowered (One w q) b (set b q w)

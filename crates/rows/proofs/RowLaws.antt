@@ -2,20 +2,25 @@
 -- written once and touches no other, so after the last mark every word below V×Q is as it should be and every other one as it was.
 use Prim.Native.Nat.{ℕ, ◌+◌, ◌-◌, ◌*◌, ◌≤◌, ◌<◌}
 use mathlib.Core.Path.{◌≡◌, refl, sym, ◌∙◌, subst, ap}
-use mathlib.Core.Bool.{Bool, true, false, cond}
+use mathlib.Core.Bool.{Bool, true, false, false≢true, cond, not}
 use mathlib.Core.List.{List, ◌++◌}
 use mathlib.Core.Logic.{◌⊎◌, inl, inr}
+use mathlib.Mathlib.Data.Bool.Basic.{eq-false_of_not-eq-true}
 use native.Mathlib.Omega.{arith}
 use native.Mathlib.Nat.{mul-le-mul, mul-le-mul_right, suc-mul}
 use native.Mathlib.Numerals.{add-one}
 use lib.Dec.{ltb, eqb}
 use lib.ListN.{length, get_or, set, take, drop, length-set, length-drop, take-append-drop, replicate, get_or-replicate, length-replicate}
 use lib.Seq.{ext_get_or, get_or-take, get_or-drop, get_or-set_same, get_or-set_other, length-take-le}
-use borrow.Author.Tests.{eqb-true, eqb-false, ltb-true, ltb-false, eq-eqb, ne_eqb}
+use borrow.Author.Tests.{eqb-true, eqb-false, ltb-true, ltb-false, eq-eqb, ne_eqb, lt-ltb, le-ltb}
+use Rattle.std.specs.Str.{bytes_eq}
+use Rattle.std.proofs.lemmas.Slice.Eq.{bytes_eq-Decides}
 use Rattle.walk.specs.Ceilings.{ceilings}
-use Rattle.walk.specs.Numbers.{has, any_below}
+use Rattle.walk.specs.Numbers.{has, ◌and◌, any_below}
+use Rattle.walk.proofs.Numbers.{any_below_in, any_below_of}
 use Rattle.tables.proofs.StepLaws.{no_and, yes_and, any-more}
-use Rattle.rows.specs.Rows.{row, opening, Row, Put, RowsTo}
+use Rattle.tables.specs.Sets.{Lowest}
+use Rattle.rows.specs.Rows.{row, opening, Row, Put, RowsTo, differ}
 
 -- where a row stands
 pub place_in : (v Q n : ℕ) → v < n → n ≤ ceilings.marks → Q ≤ ceilings.states → (v * Q + Q ≤ n * Q) × (n * Q ≤ ceilings.words)
@@ -45,6 +50,51 @@ row-blank Q s start v h ne = record {
   says = λ q l. get_or-replicate 32 q 65535 0 (omega arith)
       ∙ sym (ap (λ (t : Bool). cond t 0 65535) (no_and (eqb s v) (has start q) (ne_eqb s v (λ e. ne (sym e)))));
 }
+
+-- the row of s while its start states are passed: the words of those below n are 0, and the others 65535
+abbrev pub Started : List ℕ → ℕ → ℕ → Type 0
+Started b start n = Row b 32 (λ q. cond (ltb q n and has start q) 0 65535)
+
+pub started_none : (start at : ℕ) → at ≡ 0 → Started (replicate 32 65535) start at
+started_none start at e = record {
+  size = length-replicate {A = ℕ} 32 65535;
+  says = λ q l. get_or-replicate 32 q 65535 0 l
+      ∙ sym (ap (λ (t : Bool). cond t 0 65535) (no_and (ltb q at) (has start q) (le-ltb q at (omega arith))));
+}
+
+pub started_more : (b : List ℕ) (start t at at' n : ℕ) → t ≡ start → Lowest t at n → at' ≡ n + 1 → Started b start at → Started (set b n 0) start at'
+started_more b start t at at' n k L e S = record { size = length-set b n 0 ∙ S.size; says = λ q l. go q l (eqb q n) refl }
+  where
+    stands : has start n ≡ true
+    stands = rw k at L.stands
+
+    go : (q : ℕ) → q < 32 → (u : Bool) → eqb q n ≡ u → get_or (set b n 0) q 0 ≡ cond (ltb q at' and has start q) 0 65535
+    go q l true x =
+        let y = eqb-true q n x in
+        rw y
+        (get_or-set_same b n 0 0 (omega (arith, S.size, L.below))
+        ∙ sym (ap (λ (v : Bool). cond v 0 65535) (yes_and (ltb n at') (has start n) (lt-ltb n at' (omega arith)) ∙ stands)))
+    go q l false x =
+        let ne : ¬ (q ≡ n) = eqb-false q n x in
+        get_or-set_other b n q 0 0 (eqb-false q n x) ∙ S.says q l ∙ ap (λ (v : Bool). cond v 0 65535) (others q ne (ltb q at) refl (ltb q at') refl)
+      where
+        others : (q : ℕ) → ¬ (q ≡ n) → (u : Bool) → ltb q at ≡ u → (v : Bool) → ltb q at' ≡ v
+            → (ltb q at and has start q) ≡ (ltb q at' and has start q)
+        others q ne true f v g = let m = ltb-true q at f in ap (λ (w : Bool). w and has start q) (f ∙ sym (lt-ltb q at' (omega (arith, L.from))))
+        others q ne false f false g = ap (λ (w : Bool). w and has start q) (f ∙ sym g)
+        others q ne false f true g =
+            let m = ltb-true q at' g in
+            let none : has start q ≡ false = rw k at (L.between q (ltb-false q at f) (omega arith)) in
+            no_and _ _ f ∙ sym (yes_and _ _ g ∙ none)
+
+pub started_all : (b : List ℕ) (start t at Q : ℕ) → Q ≤ 32 → t ≡ start → ((i : ℕ) → at ≤ i → has t i ≡ false) → Started b start at
+    → Row b Q (λ q. cond (has start q) 0 65535)
+started_all b start t at Q h k none S =
+    record { size = S.size; says = λ q l. S.says q (omega arith) ∙ ap (λ (v : Bool). cond v 0 65535) (all q (ltb q at) refl) }
+  where
+    all : (q : ℕ) → (u : Bool) → ltb q at ≡ u → (ltb q at and has start q) ≡ has start q
+    all q true f = yes_and _ _ f
+    all q false f = no_and _ _ f ∙ sym (rw k at (none q (ltb-false q at f)))
 
 -- the row of s
 pub row-started : (b : List ℕ) (Q s start v : ℕ) → v ≡ s → Row b Q (λ q. cond (has start q) 0 65535) → Row b Q (opening s start v)
@@ -99,3 +149,33 @@ whole A A' X n size e rest = sym (take-append-drop n A') ∙ ap (λ (l : List �
 -- a search that has passed every number below n without a hit
 pub any_none : (n : ℕ) (p : ℕ → Bool) → any_below n p ≡ false → p n ≡ false → any_below (n + 1) p ≡ false
 any_none n p h e = any-more n p ∙ rw (e, h)
+
+-- a part is not as many first words of the row, if some word of it is not that of the row
+pub differ_is : (W b : List ℕ) → length W ≤ length b → not (bytes_eq W (take (length W) b)) ≡ differ W b (length W)
+differ_is W b h = go (bytes_eq W (take (length W) b)) refl
+  where
+    other : ℕ → Bool
+    other q = not (eqb (get_or W q 0) (get_or b q 0))
+
+    word : (i : ℕ) → any_below (length W) other ≡ false → i < length W → (t : Bool) → eqb (get_or W i 0) (get_or b i 0) ≡ t
+        → get_or W i 0 ≡ get_or b i 0
+    word i n l true f = eqb-true _ _ f
+    word i n l false f = absurd (false≢true (sym n ∙ any_below_of (length W) other i l (ap not f)))
+
+    same : any_below (length W) other ≡ false → W ≡ take (length W) b
+    same n = ext_get_or 0 W (take (length W) b) (sym (length-take-le (length W) b h))
+        (λ i l. word i n l (eqb (get_or W i 0) (get_or b i 0)) refl ∙ sym (get_or-take (length W) b i 0 l))
+
+    none : W ≡ take (length W) b → any_below (length W) other ≡ true → ⊥
+    none e y =
+        let (i, l, z) = any_below_in (length W) other y in
+        let x : get_or W i 0 ≡ get_or b i 0 = ap (λ (w : List ℕ). get_or w i 0) e ∙ get_or-take (length W) b i 0 l in
+        false≢true (sym (ap not (eq-eqb _ _ x)) ∙ z)
+
+    some : bytes_eq W (take (length W) b) ≡ false → (t : Bool) → any_below (length W) other ≡ t → true ≡ any_below (length W) other
+    some e true f = sym f
+    some e false f = absurd (false≢true (sym e ∙ (bytes_eq-Decides W (take (length W) b)).1 (same f)))
+
+    go : (t : Bool) → bytes_eq W (take (length W) b) ≡ t → not t ≡ any_below (length W) other
+    go true e = sym (eq-false_of_not-eq-true (none ((bytes_eq-Decides W (take (length W) b)).0 e)))
+    go false e = some e (any_below (length W) other) refl

@@ -13,13 +13,11 @@ fn join(set: u32, p: State, d: u16, lo: u16, hi: u16) -> u32
     requires { p.0 < 32 }
     ensures { Joined result set p.0 (between lo hi d) }
 {
-    if d < lo {
-        return set;
+    if lo <= d && d < hi {
+        sets::with(set, p.index())
+    } else {
+        set
     }
-    if d >= hi {
-        return set;
-    }
-    sets::with(set, p.index())
 }
 
 // The states of a row.
@@ -28,32 +26,27 @@ pub fn of_row(words: &[u16], states: usize, lo: u16, hi: u16) -> u32
     ensures { AliveRow result words.now states lo hi }
 {
     let mut set = 0u32;
-    let mut p = 0;
-    while p < states {
-        set = join(set, State::tested(p, states), words[p], lo, hi);
-        p += 1;
+    for (p, &d) in words.iter().enumerate() {
+        set = join(set, State::tested(p, states), d, lo, hi);
     }
     set
 }
 
 // The states of each mark.
-pub fn fill(
-    live: &mut [u32; Network::MARKS],
+pub fn of_marks(
     area: &[u16],
     marks: usize,
     states: usize,
     lo: u16,
     hi: u16,
-)
-    requires { (marks ≤ ceilings.marks) × (states ≤ ceilings.states) × (marks * states ≤ length area.now)
-        × (length live.old ≡ ceilings.marks) }
-    ensures { Alive live.new area.now marks states lo hi }
+) -> [u32; Network::MARKS]
+    requires { (marks ≤ ceilings.marks) × (states ≤ ceilings.states) × (marks * states ≤ length area.now) }
+    ensures { Alive result area.now marks states lo hi }
 {
-    let mut v = 0;
-    while v < marks {
+    let mut live = [0u32; Network::MARKS];
+    for v in 0..marks {
         let at = crate::place(Mark::tested(v, marks), states, marks);
-        let end = at + states;
-        live[v] = of_row(&area[at..end], states, lo, hi);
-        v += 1;
+        live[v] = of_row(&area[at..at + states], states, lo, hi);
     }
+    live
 }

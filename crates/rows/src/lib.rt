@@ -6,11 +6,12 @@
 pub mod alive;
 pub mod offers;
 
-ghost use Rattle.std.specs.Prelude.{cond, ◌≡◌, ◌+◌, ◌*◌, ◌≤◌, ◌<◌, length, get_or};
+ghost use Rattle.std.specs.Prelude.{◌≡◌, ◌+◌, ◌*◌, ◌≤◌, ◌<◌, length, get_or};
 ghost use Rattle.walk.specs.Ceilings.{ceilings};
 ghost use Rattle.rows.specs.Rows.{opening, Row, Put, RowsTo, differ};
 
-use tables::numbers::{Mark, State};
+use tables::numbers::Mark;
+use tables::sets::Elements;
 use walk::{Area, Condition};
 
 // Where the row of mark v begins.
@@ -21,27 +22,16 @@ pub fn place(v: Mark, states: usize, marks: usize) -> usize
     v.index() * states
 }
 
-// The word of a pair for 0 rounds.
-fn first_word(starts: bool) -> u16
-    ensures { result ≡ cond starts 0 ceilings.unreached }
-{
-    if starts { 0 } else { Area::UNREACHED }
-}
-
 // The row of mark v for 0 rounds: 0 at a start pair.
 pub fn opening(v: Mark, s: Mark, condition: Condition) -> [u16; Condition::STATES]
     requires { condition.states ≤ ceilings.states }
     ensures { Row result condition.states (opening s.0 condition.start v.0) }
 {
     let mut row = [Area::UNREACHED; Condition::STATES];
-    if v.index() != s.index() {
-        return row;
-    }
-    let states = condition.states;
-    let mut q = 0;
-    while q < states {
-        row[q] = first_word(State::tested(q, states).among(condition.start));
-        q += 1;
+    if v.index() == s.index() {
+        for q in Elements::of(condition.start) {
+            row[q] = 0;
+        }
     }
     row
 }
@@ -51,12 +41,8 @@ pub fn fetch(area: &[u16], at: usize, states: usize) -> [u16; Condition::STATES]
     requires { (states ≤ ceilings.states) × (at + states ≤ length area.now) }
     ensures { Row result states (λ q. get_or area.now (at + q) 0) }
 {
-    let mut row = [Area::UNREACHED; Condition::STATES];
-    let mut q = 0;
-    while q < states {
-        row[q] = area[at + q];
-        q += 1;
-    }
+    let mut row = [0; Condition::STATES];
+    row[..states].copy_from_slice(&area[at..at + states]);
     row
 }
 
@@ -65,11 +51,7 @@ pub fn write(area: &mut [u16], at: usize, row: &[u16; Condition::STATES], states
     requires { (states ≤ ceilings.states) × (at + states ≤ length area.old) }
     ensures { Put area.old area.new row.now at states }
 {
-    let mut q = 0;
-    while q < states {
-        area[at + q] = row[q];
-        q += 1;
-    }
+    area[at..at + states].copy_from_slice(&row[..states]);
 }
 
 // Some word of the part is not that of the row.
@@ -77,14 +59,7 @@ pub fn differs(words: &[u16], row: &[u16; Condition::STATES]) -> bool
     requires { length words.now ≤ ceilings.states }
     ensures { result ≡ differ words.now row.now (length words.now) }
 {
-    let mut q = 0;
-    while q < words.len() {
-        if words[q] != row[q] {
-            return true;
-        }
-        q += 1;
-    }
-    false
+    words != &row[..words.len()]
 }
 
 // The right area for 0 rounds, mark by mark.
@@ -93,11 +68,9 @@ pub fn open(area: &mut [u16], marks: usize, condition: Condition, s: Mark)
     ensures { RowsTo area.old area.new condition.states marks (opening s.0 condition.start) }
 {
     let states = condition.states;
-    let mut v = 0;
-    while v < marks {
+    for v in 0..marks {
         let m = Mark::tested(v, marks);
         let row = opening(m, s, condition);
         write(area, place(m, states, marks), &row, states);
-        v += 1;
     }
 }

@@ -6,8 +6,9 @@ ghost use Rattle.walk.specs.Ceilings.{ceilings};
 ghost use Rattle.rows.specs.Rows.{Sized};
 ghost use Rattle.rows.specs.Offers.{Lowered, One, Each, Between, ByKind, Along, OfTie, Within, Living, AllLiving, Narrow, TiesIn};
 
+use std::ops::Range;
 use tables::numbers::{Kind, State, Tie};
-use tables::sets;
+use tables::sets::Elements;
 use tables::steps::Steps;
 use walk::{Condition, Network};
 
@@ -17,9 +18,7 @@ fn lower(row: &mut [u16; Condition::STATES], q: State, w: u16)
     ensures { Lowered (One w q.0) row.old row.new }
 {
     let at = q.index();
-    if row[at] > w {
-        row[at] = w;
-    }
+    row[at] = row[at].min(w);
 }
 
 // The words of a set of states, lowered to w.
@@ -27,53 +26,25 @@ fn lower_all(row: &mut [u16; Condition::STATES], set: u32, states: usize, w: u16
     requires { (states ≤ ceilings.states) × (length row.old ≡ ceilings.states) × Within set states }
     ensures { Lowered (Each set (One w) ceilings.states) row.old row.new }
 {
-    let mut rest = set;
-    let mut n = 0;
-    while rest != 0 {
-        let z = sets::lowest(rest);
-        n += z;
+    for n in Elements::of(set) {
         lower(row, State::tested(n, states), w);
-        rest = sets::above(rest, z);
-        n += 1;
     }
 }
 
-// One more than the word of a state alive.
-fn more(words: &[u16], p: State) -> u16
-    requires { (p.0 < length words.now) × (get_or words.now p.0 0 < ceilings.unreached) }
-    ensures { result ≡ get_or words.now p.0 0 + 1 }
-{
-    let at = p.index();
-    words[at] + 1
-}
-
 // The offers under kind k from the states of a set.
-fn by_kind(
-    row: &mut [u16; Condition::STATES],
-    words: &[u16],
-    table: &[u32; Steps::WORDS],
-    k: Kind,
-    set: u32,
-    states: usize,
-)
-    requires { (k.0 < ceilings.kinds) × (states ≤ ceilings.states) × (length row.old ≡ ceilings.states)
-        × (length words.now ≡ states) × Living words.now set states × Narrow table.now states }
-    ensures { Lowered (ByKind table.now words.now set k.0) row.old row.new }
+fn by_kind(row: &mut [u16; Condition::STATES], words: &[u16], steps: &Steps, k: Kind, set: u32)
+    requires { (k.0 < ceilings.kinds) × (length words.now ≤ ceilings.states) × (length row.old ≡ ceilings.states)
+        × Living words.now set (length words.now) × Narrow steps.now.table (length words.now) }
+    ensures { Lowered (ByKind steps.now.table words.now set k.0) row.old row.new }
 {
-    let mut rest = set;
-    let mut n = 0;
-    while rest != 0 {
-        let z = sets::lowest(rest);
-        n += z;
-        let p = State::tested(n, states);
+    let states = words.len();
+    for n in Elements::of(set) {
         lower_all(
             row,
-            table[k.index() * Condition::STATES + p.index()],
+            steps.follow(State::tested(n, states), k),
             states,
-            more(words, p),
+            words[n] + 1,
         );
-        rest = sets::above(rest, z);
-        n += 1;
     }
 }
 
@@ -81,105 +52,69 @@ fn by_kind(
 fn along(
     row: &mut [u16; Condition::STATES],
     words: &[u16],
-    table: &[u32; Steps::WORDS],
-    sources: &[u32; Network::KINDS],
+    steps: &Steps,
     live: u32,
     set: u32,
     kinds: usize,
-    states: usize,
 )
-    requires { (kinds ≤ ceilings.kinds) × (states ≤ ceilings.states) × (length row.old ≡ ceilings.states)
-        × (length words.now ≡ states) × Living words.now live states × Narrow table.now states × Within set kinds }
-    ensures { Lowered (Along table.now sources.now words.now live set) row.old
-        row.new }
+    requires { (kinds ≤ ceilings.kinds) × (length words.now ≤ ceilings.states) × (length row.old ≡ ceilings.states)
+        × Living words.now live (length words.now) × Narrow steps.now.table (length words.now) × Within set kinds }
+    ensures { Lowered (Along steps.now.table steps.now.sources words.now live set) row.old row.new }
 {
-    let mut rest = set;
-    let mut n = 0;
-    while rest != 0 {
-        let z = sets::lowest(rest);
-        n += z;
+    for n in Elements::of(set) {
         let k = Kind::tested(n, kinds);
-        by_kind(row, words, table, k, live & sources[k.index()], states);
-        rest = sets::above(rest, z);
-        n += 1;
+        by_kind(row, words, steps, k, live & steps.leave(k));
     }
 }
 
-// The offers along tie e, if a state of the mark that it leaves is alive.
-fn of_tie(
-    row: &mut [u16; Condition::STATES],
-    from: &[u16],
-    sets: &[u32],
-    area: &[u16],
-    table: &[u32; Steps::WORDS],
-    sources: &[u32; Network::KINDS],
-    live: &[u32; Network::MARKS],
-    network: Network,
-    states: usize,
-    ties: usize,
-    e: Tie,
-)
-    requires { (e.0 < ties) × (length row.old ≡ ceilings.states) × Sized network.marks network.kinds states area.now
-        × TiesIn network.marks network.kinds ties from.now sets.now × AllLiving live.now area.now network.marks states
-        × Narrow table.now states }
-    ensures { Lowered (OfTie table.now sources.now live.now area.now states
-        from.now sets.now e.0) row.old row.new }
-{
-    let u = e.leaves(from, network.marks);
-    let set = live[u.index()];
-    if set == 0 {
-        return;
-    }
-    let at = crate::place(u, states, network.marks);
-    let end = at + states;
-    along(
-        row,
-        &area[at..end],
-        table,
-        sources,
-        set,
-        e.kinds(sets),
-        network.kinds,
-        states,
-    );
+// What the ties offer from: the words of an area with the states of each mark that are alive, the columns that say where a tie leaves and of what
+// kinds it is, and the step table.
+#[derive(Clone, Copy)]
+pub struct Offers<'a> {
+    pub network: Network,
+    pub states: usize,
+    pub from: &'a [u16],
+    pub kinds: &'a [u32],
+    pub area: &'a [u16],
+    pub live: &'a [u32; Network::MARKS],
+    pub steps: &'a Steps,
+    ghost size: { Sized network.marks network.kinds states area.now },
+    ghost ties: { TiesIn network.marks network.kinds (length from.now) from.now kinds.now },
+    ghost living: { AllLiving live.now area.now network.marks states },
+    ghost narrow: { Narrow steps.now.table states },
 }
 
-// The offers along the ties from one to below another.
-pub fn into(
-    row: &mut [u16; Condition::STATES],
-    from: &[u16],
-    sets: &[u32],
-    area: &[u16],
-    table: &[u32; Steps::WORDS],
-    sources: &[u32; Network::KINDS],
-    live: &[u32; Network::MARKS],
-    network: Network,
-    states: usize,
-    ties: usize,
-    first: usize,
-    end: usize,
-)
-    requires { (first ≤ end) × (end ≤ ties) × (length row.old ≡ ceilings.states)
-        × Sized network.marks network.kinds states area.now × TiesIn network.marks network.kinds ties from.now sets.now
-        × AllLiving live.now area.now network.marks states × Narrow table.now states }
-    ensures { Lowered (Between first (OfTie table.now sources.now live.now area.now states
-        from.now sets.now) end) row.old row.new }
-{
-    let mut e = first;
-    while e < end {
-        of_tie(
-            row,
-            from,
-            sets,
-            area,
-            table,
-            sources,
-            live,
-            network,
-            states,
-            ties,
-            Tie::tested(e, ties),
-        );
-        e += 1;
+impl<'a> Offers<'a> {
+    // The offers along tie e, if a state of the mark that it leaves is alive.
+    fn of_tie(&self, row: &mut [u16; Condition::STATES], e: Tie)
+        requires { (e.0 < length self.now.from.now) × (length row.old ≡ ceilings.states) }
+        ensures { Lowered (OfTie self.now.steps.now.table self.now.steps.now.sources self.now.live.now self.now.area.now self.now.states
+            self.now.from.now self.now.kinds.now e.0) row.old row.new }
+    {
+        let u = e.leaves(self.from, self.network.marks);
+        let live = self.live[u.index()];
+        if live != 0 {
+            let at = crate::place(u, self.states, self.network.marks);
+            let words = &self.area[at..at + self.states];
+            along(
+                row,
+                words,
+                self.steps,
+                live,
+                e.kinds(self.kinds),
+                self.network.kinds,
+            );
+        }
+    }
+
+    // The offers along a part of the ties.
+    pub fn lower_row(&self, row: &mut [u16; Condition::STATES], ties: Range<usize>)
+        requires { (ties.start ≤ ties.end) × (ties.end ≤ length self.now.from.now) × (length row.old ≡ ceilings.states) }
+        ensures { Lowered (Between ties.start (OfTie self.now.steps.now.table self.now.steps.now.sources self.now.live.now self.now.area.now
+            self.now.states self.now.from.now self.now.kinds.now) ties.end) row.old row.new }
+    {
+        for e in ties {
+            self.of_tie(row, Tie::tested(e, self.from.len()));
+        }
     }
 }

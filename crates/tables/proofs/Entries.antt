@@ -6,9 +6,9 @@ use mathlib.Core.Path.{◌≡◌, refl, sym}
 use lib.Dec.{ltb}
 use borrow.Author.Tests.{ltb-true, ltb-false, lt-ltb}
 use Rattle.walk.proofs.Numbers.{clash}
-use Rattle.tables.specs.declared.numbers.Tie as tie
-use Rattle.tables.specs.declared.numbers.TieEntry.TheVariants.{Is, Not}
-use Rattle.tables.specs.Entries.{tie_entry, Entered}
+use Rattle.std.specs.Prelude.{Option, Some, None}
+use Rattle.tables.specs.declared.numbers.Number.{Number}
+use Rattle.tables.specs.Entries.{entry, Entered}
 
 pub entry-is {ℓ} : {A : Type ℓ} {n bound : ℕ} (is not : A) → n < bound → cond (ltb n bound) is not ≡ is
 entry-is {n} {bound} is not h = rw (lt-ltb n bound h)
@@ -17,16 +17,16 @@ pub entered : {r n bound : ℕ} → r ≡ n → n < bound → Entered r n bound
 entered e h = record { is = e; below = rw e h }
 
 -- and what the answer says of the number: it is below the bound, or it is not
-pub entry_in : (n bound : ℕ) (e : tie.Tie) → tie_entry n bound ≡ Is e → (n < bound) × (e.0 ≡ n)
+pub entry_in : {S : Type 0} (n bound : ℕ) (e : Number S) → entry n bound ≡ Some e → (n < bound) × (e.0 ≡ n)
 entry_in n bound e h = go (ltb n bound) refl h
   where
-    go : (b : Bool) → ltb n bound ≡ b → cond b (Is (record { 0 = n })) Not ≡ Is e → (n < bound) × (e.0 ≡ n)
+    go : (b : Bool) → ltb n bound ≡ b → cond b (Some (record { 0 = n; 1 = record {} })) None ≡ Some e → (n < bound) × (e.0 ≡ n)
     go true b h = let f : n ≡ e.0 = cc in (ltb-true n bound b, sym f)
     go false b h = clash cc
 
-pub entry_out : (n bound : ℕ) → tie_entry n bound ≡ Not → bound ≤ n
-entry_out n bound h = go (ltb n bound) refl h
+pub entry_out : {S : Type 0} (n bound : ℕ) → entry {S = S} n bound ≡ None → bound ≤ n
+entry_out {S = S} n bound h = go (ltb n bound) refl h
   where
-    go : (b : Bool) → ltb n bound ≡ b → cond b (Is (record { 0 = n })) Not ≡ Not → bound ≤ n
+    go : (b : Bool) → ltb n bound ≡ b → ◌≡◌ {A = Option (Number S)} (cond b (Some (record { 0 = n; 1 = record {} })) None) None → bound ≤ n
     go true b h = clash cc
     go false b h = ltb-false n bound b

@@ -1,10 +1,10 @@
 -- The laws of a set held in a word. Membership in a union is an `||`; bit j of an intersection is the lesser of the two bits, so membership is an
--- `and`. A walk over the elements, lowest first, keeps the elements from k on, shifted down by k: what the lowest of those is says
--- where the next element stands, that none lies between, and what is left after it.
+-- `and`. A walk over the elements, lowest first, looks at the set from a place on, shifted down by it: the lowest bit that stands there says where
+-- the next element is, that none lies between, and where nothing stands that none is left.
 use mathlib.Core.Path.{◌≡◌, refl, sym, ap, subst, ◌∙◌}
 use mathlib.Core.Bool.{false, ◌||◌}
 use Prim.Native.Nat.{ℕ, zero, suc, ◌+◌, ◌-◌, ◌*◌, ◌/◌, ◌%◌, ◌^◌, ◌≤◌, ◌<◌, min}
-use native.Mathlib.Nat.{one-mul, mod-lt, not-suc-le-zero, div-one, le_of_suc-le-suc}
+use native.Mathlib.Nat.{one-mul, mod-lt, not-suc-le-zero, div-one, le_of_suc-le-suc, div-le_self, lt_of_le_of_lt, lt_trans}
 use native.Mathlib.Numerals.{add-one}
 use native.Mathlib.Omega.{arith}
 use lib.Arith.{digits_mod}
@@ -93,36 +93,30 @@ low (suc k) n h l = go (λ p. low k (n / 2) p (shr_lt k 1 (subst (λ (x : ℕ). 
         let one : n % 2 ≡ 1 = omega arith in
         record { below = omega arith; stands = has-zero n ∙ ap (λ (m : ℕ). eqb m 1) one; first = λ i h. absurd (not-suc-le-zero h) }
 
-pub lowest-is : (n : ℕ) → (n ≡ 0 → ⊥) → n < 2 ^ 32 → Lowest n (count_trailing_zeros 32 n)
-lowest-is n ne l =
-    let L = low 32 n (omega arith) l in
-    record { below = L.below; stands = L.stands; first = L.first }
-
--- a walk, lowest first: the elements from k on are `rest`, shifted down, and the first of them stands at z
-pub record Walk (set rest k z : ℕ) : Type 0 where
-  pub below : k + z < 32
-  pub stands : Yes (has set (k + z))
-  pub between : (i : ℕ) → k ≤ i → i < k + z → has set i ≡ false
-  pub left : rest / 2 ^ z / 2 ≡ set / 2 ^ (k + z + 1)
-
-pub walk : (set rest k z : ℕ) → set < 2 ^ 32 → rest ≡ set / 2 ^ k → Lowest rest z → Walk set rest k z
-walk set rest k z small e L = record { below = has-below 32 set (k + z) small st; stands = st; between = bt; left = lf }
+-- over a set from `at` on, as the code looks at it: the lowest element, or none
+pub lowest_from : (set at : ℕ) → set < 2 ^ 32 → ¬ (set / 2 ^ at ≡ 0) → Lowest set at (at + count_trailing_zeros 64 (set / 2 ^ at))
+lowest_from set at small ne = record { from = omega arith; below = has-below 32 set (at + z) small st; stands = st; between = bt }
   where
-    st : Yes (has set (k + z))
-    st = sym (has-shr set k z) ∙ (rw (← e) L.stands)
+    rest : ℕ
+    rest = set / 2 ^ at
 
-    bt : (i : ℕ) → k ≤ i → i < k + z → has set i ≡ false
+    z : ℕ
+    z = count_trailing_zeros 64 (set / 2 ^ at)
+
+    L : Low 64 (set / 2 ^ at) (count_trailing_zeros 64 (set / 2 ^ at))
+    L = low 64 (set / 2 ^ at) (let p : ¬ (set / 2 ^ at ≡ 0) = ne in omega arith) (lt_of_le_of_lt (div-le_self set (2 ^ at)) (lt_trans small (lit< tt)))
+
+    st : Yes (has set (at + count_trailing_zeros 64 (set / 2 ^ at)))
+    st = sym (has-shr set at (count_trailing_zeros 64 (set / 2 ^ at))) ∙ L.stands
+
+    bt : (i : ℕ) → at ≤ i → i < at + count_trailing_zeros 64 (set / 2 ^ at) → has set i ≡ false
     bt i h l =
-        let j = i - k in
-        let x : i ≡ k + j = omega arith in
-        rw x (sym (has-shr set k j) ∙ (rw (← e) (L.first j (omega arith))))
+        let j = i - at in
+        let x : i ≡ at + j = omega arith in
+        rw x (sym (has-shr set at j) ∙ L.first j (omega arith))
 
-    lf : rest / 2 ^ z / 2 ≡ set / 2 ^ (k + z + 1)
-    lf = rw e (ap (λ (m : ℕ). m / 2) (shr-shr set k z) ∙ shr-shr set (k + z) 1)
-
--- nothing is left: no element from k on
-pub walk_end : (set k : ℕ) → 0 ≡ set / 2 ^ k → (i : ℕ) → k ≤ i → has set i ≡ false
-walk_end set k e i h =
-    let j = i - k in
-    let x : i ≡ k + j = omega arith in
-    rw x (sym (has-shr set k j) ∙ ap (λ (n : ℕ). has n j) (sym e) ∙ has-none j)
+pub none_from : (set at : ℕ) → set / 2 ^ at ≡ 0 → (i : ℕ) → at ≤ i → has set i ≡ false
+none_from set at e i h =
+    let j = i - at in
+    let x : i ≡ at + j = omega arith in
+    rw x (sym (has-shr set at j) ∙ ap (λ (n : ℕ). has n j) e ∙ has-none j)

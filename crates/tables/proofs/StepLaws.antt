@@ -1,7 +1,7 @@
 -- The laws of the step table. Putting a move sets one bit, so after the first j moves a bit stands exactly where one of them says so; at the end
 -- that is `follows`. A walk over the kinds of a tie unites what stands at the kinds passed; kinds that are not in the set change nothing, so at
 -- its end that is `steps`.
-use Prim.Native.Nat.{ℕ, zero, suc, ◌+◌, ◌*◌, ◌/◌, ◌^◌, ◌≤◌, ◌<◌}
+use Prim.Native.Nat.{ℕ, zero, suc, ◌+◌, ◌*◌, ◌^◌, ◌≤◌, ◌<◌}
 use mathlib.Core.Path.{◌≡◌, refl, sym, ap, ap₂, ◌∙◌}
 use mathlib.Core.Bool.{Bool, true, false, ◌||◌, false≢true, or_comm}
 use mathlib.Core.List.{List}
@@ -21,7 +21,8 @@ use Rattle.walk.specs.Condition.{Condition, no_move, move_at, follows}
 use Rattle.walk.proofs.Numbers.{Yes, and_in, and_of, or_in, eqb_of, any_below_in, any_below_of, length-table, getD-table, yes_same}
 use Rattle.tables.specs.Lent.{move_of, moves_of}
 use Rattle.tables.specs.Steps.{Clear, InRange, Filled, steps}
-use Rattle.tables.proofs.SetLaws.{Walk, walk_end, has-or, has-none, one_is}
+use Rattle.tables.specs.Sets.{Lowest}
+use Rattle.tables.proofs.SetLaws.{has-or, has-none, one_is}
 
 -- tests
 pub any-more : (n : ℕ) (p : ℕ → Bool) → any_below (n + 1) p ≡ (p n || any_below n p)
@@ -55,18 +56,18 @@ yes_and a b e = rw e
 abbrev pub by : List ℕ → ℕ → ℕ → ℕ → ℕ → Bool
 by T kinds p q k = has kinds k and has (get_or T (k * 32 + p) 0) q
 
-pub next_more : (T : List ℕ) (kinds p set rest k z : ℕ) → Walk kinds rest k z → ((q : ℕ) → has set q ≡ any_below k (by T kinds p q))
-    → (q : ℕ) → has (bit_or set (get_or T ((k + z) * 32 + p) 0)) q ≡ any_below (k + z + 1) (by T kinds p q)
-next_more T kinds p set rest k z W h q =
+pub next_more : (T : List ℕ) (kinds p set k n : ℕ) → Lowest kinds k n → ((q : ℕ) → has set q ≡ any_below k (by T kinds p q))
+    → (q : ℕ) → has (bit_or set (get_or T (n * 32 + p) 0)) q ≡ any_below (n + 1) (by T kinds p q)
+next_more T kinds p set k n L h q =
     has-or set _ q
-    ∙ or_comm (has set q) (has (get_or T ((k + z) * 32 + p) 0) q)
-    ∙ ap₂ ◌||◌ (sym (yes_and _ _ W.stands)) (h q ∙ sym (any_skip k (k + z) (by T kinds p q) (omega arith) (λ i l m. no_and _ _ (W.between i l m))))
-    ∙ sym (any-more (k + z) (by T kinds p q))
+    ∙ or_comm (has set q) (has (get_or T (n * 32 + p) 0) q)
+    ∙ ap₂ ◌||◌ (sym (yes_and _ _ L.stands)) (h q ∙ sym (any_skip k n (by T kinds p q) L.from (λ i l m. no_and _ _ (L.between i l m))))
+    ∙ sym (any-more n (by T kinds p q))
 
-pub next-end : (T : List ℕ) (kinds p set k : ℕ) → k ≤ 32 → 0 ≡ kinds / 2 ^ k → ((q : ℕ) → has set q ≡ any_below k (by T kinds p q))
+pub next-end : (T : List ℕ) (kinds p set k : ℕ) → k ≤ 32 → ((i : ℕ) → k ≤ i → has kinds i ≡ false) → ((q : ℕ) → has set q ≡ any_below k (by T kinds p q))
     → (q : ℕ) → has set q ≡ steps T kinds p q
 unfolding steps
-next-end T kinds p set k l e h q = h q ∙ sym (any_skip k 32 (by T kinds p q) l (λ i m _. no_and _ _ (walk_end kinds k e i m)))
+next-end T kinds p set k l e h q = h q ∙ sym (any_skip k 32 (by T kinds p q) l (λ i m _. no_and _ _ (e i m)))
 
 pub next-none : (T : List ℕ) (kinds p q : ℕ) → has 0 q ≡ any_below 0 (by T kinds p q)
 unfolding any_below

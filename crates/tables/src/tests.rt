@@ -1,172 +1,147 @@
-// The tests behind refusals 1 to 7, in the table's order. Each ceiling is cited from its constant.
+// The tests behind refusals 1 to 7, in the table's order: one for each row. Each ceiling is cited from its constant.
 
-ghost use Rattle.std.specs.Prelude.{◌≡◌, not, List, ℕ, ◌*◌, ◌≤◌, ◌<◌, ltb, length};
+ghost use Rattle.std.specs.Prelude.{Bool, List, [], ◌∷◌, ℕ, ◌≡◌, ◌*◌, ◌≤◌, ◌<◌, length};
+ghost use Rattle.walk.specs.declared.Move.{Move};
 ghost use Rattle.walk.specs.Ceilings.{ceilings};
-ghost use Rattle.walk.specs.Numbers.{least, ◌and◌};
-ghost use Rattle.walk.specs.Answers.{network_of, condition_of, question};
-ghost use Rattle.walk.specs.Refusals.{bad_sizes, bad_tie_at, late_at, bad_states, bad_move_at, start_tests};
+ghost use Rattle.walk.specs.Network as lent;
+ghost use Rattle.walk.specs.Answers.{network_of, condition_of, asked};
+ghost use Rattle.walk.specs.Refusals.{row, at_first, bad_tie_at, late_at, bad_move_at, sizes, bad_tie, tie_order, bad_condition, bad_move, bad_ends, short_area, start_tests};
 ghost use Rattle.tables.specs.Lent.{moves_of};
 ghost use Rattle.tables.specs.Tests.{first_given};
 
-use crate::numbers::wide;
-use walk::{Ask, Condition, Network, Refusal};
+use crate::gathered::Gathered;
+use crate::sets::only_below;
+use walk::{Condition, Network, Question, Refusal, Refused};
 
-// What the tests answer.
-#[derive(Clone, Copy)]
-pub enum Verdict {
-    Passed,
-    Refused(Refusal, usize),
+// A row of the table: refused if it is given.
+fn unless(given: bool, refusal: Refusal, place: usize) -> Result<(), Refused>
+    ensures { result ≡ first_given (row refusal given place ∷ []) }
+{
+    if given {
+        return Err(Refused { refusal, place });
+    }
+    Ok(())
+}
+
+// A row that asks each of n places: refused at the first that is bad.
+fn unless_any<F: Fn(usize) -> bool>(n: usize, refusal: Refusal, bad: F) -> Result<(), Refused>
+    requires { (i : ℕ) → i < n → F.pre bad i }
+    ensures { (is_bad : ℕ → Bool) → ((i : ℕ) (x : Bool) → i < n → F.post bad i x → x ≡ is_bad i)
+        → result ≡ first_given (at_first refusal n is_bad ∷ []) }
+{
+    for place in 0..n {
+        if bad(place) {
+            return Err(Refused { refusal, place });
+        }
+    }
+    Ok(())
 }
 
 // "V, K or E past its ceiling or V, K zero, or columns of unequal length"
-fn bad_sizes(network: Network, from: &[u16], to: &[u16], kinds: &[u32]) -> bool
-    ensures { result ≡ bad_sizes (network_of network from.now to.now kinds.now) }
+fn sizes(question: &Question) -> Result<(), Refused>
+    ensures { (m : List Move) → result ≡ first_given (sizes (asked question.now m) ∷ []) }
 {
-    if network.marks < 1 {
-        return true;
-    }
-    if network.marks > Network::MARKS {
-        return true;
-    }
-    if network.kinds < 1 {
-        return true;
-    }
-    if network.kinds > Network::KINDS {
-        return true;
-    }
-    if from.len() > Network::TIES {
-        return true;
-    }
-    if to.len() != from.len() {
-        return true;
-    }
-    kinds.len() != from.len()
+    let network = question.network;
+    let ties = question.from.len();
+    let bad = network.marks < 1
+        || network.marks > Network::MARKS
+        || network.kinds < 1
+        || network.kinds > Network::KINDS
+        || ties > Network::TIES
+        || question.to.len() != ties
+        || question.kinds.len() != ties;
+    unless(bad, Refusal::Sizes, 0)
 }
 
 // Tie e "names a mark not below V or a kind not below K".
-fn bad_tie(network: Network, from: &[u16], to: &[u16], kinds: &[u32], e: usize) -> bool
-    requires { (network.kinds ≤ ceilings.kinds) × (e < length from.now) × (e < length to.now) × (e < length kinds.now) }
-    ensures { result ≡ bad_tie_at (network_of network from.now to.now kinds.now) e }
+fn bad_tie_at(question: &Question, e: usize) -> bool
+    requires { (question.now.network.kinds ≤ ceilings.kinds) × (e < length question.now.from.now) × (e < length question.now.to.now)
+        × (e < length question.now.kinds.now) }
+    ensures { result ≡ bad_tie_at (network_of question.now.network question.now.from.now question.now.to.now question.now.kinds.now) e }
 {
-    if wide(from, e) >= network.marks {
-        return true;
-    }
-    if wide(to, e) >= network.marks {
-        return true;
-    }
-    !crate::sets::only_below(network.kinds, kinds[e])
+    let network = question.network;
+    usize::from(question.from[e]) >= network.marks
+        || usize::from(question.to[e]) >= network.marks
+        || !only_below(network.kinds, question.kinds[e])
 }
 
-// The first such tie, or the number of ties.
-fn first_bad_tie(network: Network, ties: usize, from: &[u16], to: &[u16], kinds: &[u32]) -> usize
-    requires { (network.kinds ≤ ceilings.kinds) × (length from.now ≡ ties) × (length to.now ≡ ties) × (length kinds.now ≡ ties) }
-    ensures { result ≡ least (bad_tie_at (network_of network from.now to.now kinds.now)) ties }
+// The first such tie is refused.
+fn bad_tie(question: &Question) -> Result<(), Refused>
+    requires { (question.now.network.kinds ≤ ceilings.kinds) × (length question.now.to.now ≡ length question.now.from.now)
+        × (length question.now.kinds.now ≡ length question.now.from.now) }
+    ensures { (m : List Move) → result ≡ first_given (bad_tie (asked question.now m) ∷ []) }
 {
-    let mut e = 0;
-    while e < ties {
-        if bad_tie(network, from, to, kinds, e) {
-            return e;
-        }
-        e += 1;
-    }
-    ties
+    unless_any(
+        question.from.len(),
+        Refusal::BadTie,
+        |e| bad_tie_at(question, e),
+    )
 }
 
 // The to mark of tie e "is below that of the tie before".
-fn late(to: &[u16], e: usize) -> bool
+fn late_at(to: &[u16], e: usize) -> bool
     requires { e < length to.now }
-    ensures { (n : Network) (f k : List ℕ) → result ≡ late_at (network_of n f to.now k) e }
+    ensures { (N : lent.Network) → N.tos ≡ to.now → result ≡ late_at N e }
 {
-    if e == 0 {
-        return false;
-    }
-    to[e] < to[e - 1]
+    e > 0 && to[e] < to[e - 1]
 }
 
-// The first such tie, or the number of ties.
-fn first_late(ties: usize, to: &[u16]) -> usize
-    requires { length to.now ≡ ties }
-    ensures { (n : Network) (f k : List ℕ) → result ≡ least (late_at (network_of n f to.now k)) ties }
+// The first such tie is refused.
+fn tie_order(question: &Question) -> Result<(), Refused>
+    requires { length question.now.to.now ≡ length question.now.from.now }
+    ensures { (m : List Move) → result ≡ first_given (tie_order (asked question.now m) ∷ []) }
 {
-    let mut e = 0;
-    while e < ties {
-        if late(to, e) {
-            return e;
-        }
-        e += 1;
-    }
-    ties
+    unless_any(
+        question.to.len(),
+        Refusal::TieOrder,
+        |e| late_at(question.to, e),
+    )
 }
 
 // "Q or the move count outside its ceiling, or a start or accepting state not below Q"
-fn bad_states(condition: Condition, moves: usize) -> bool
-    ensures { (numbers : List ℕ) → result ≡ bad_states (condition_of condition (moves_of moves numbers)) }
+fn bad_condition(question: &Question, moves: &Gathered) -> Result<(), Refused>
+    ensures { result ≡ first_given (bad_condition (asked question.now (moves_of moves.now.count moves.now.numbers)) ∷ []) }
 {
-    let states = condition.states;
-    if states < 1 {
-        return true;
-    }
-    if states > Condition::STATES {
-        return true;
-    }
-    if moves > Condition::MOVES {
-        return true;
-    }
-    if !crate::sets::only_below(states, condition.start) {
-        return true;
-    }
-    !crate::sets::only_below(states, condition.accept)
+    let condition = question.condition;
+    let bad = condition.states < 1
+        || condition.states > Condition::STATES
+        || moves.count > Condition::MOVES
+        || !only_below(condition.states, condition.start)
+        || !only_below(condition.states, condition.accept);
+    unless(bad, Refusal::BadCondition, 0)
 }
 
-// With K kinds, move j "names a state not below Q or a kind not below K".
-fn bad_move(
-    kinds: usize,
-    condition: Condition,
-    moves: usize,
-    numbers: &[u16; Condition::NUMBERS],
-    j: usize,
-) -> bool
-    requires { (j < moves) × (j < ceilings.moves) }
-    ensures { result ≡ bad_move_at kinds (condition_of condition (moves_of moves numbers.now)) j }
+// Move j "names a state not below Q or a kind not below K".
+fn bad_move_at(question: &Question, moves: &Gathered, j: usize) -> bool
+    requires { (j < moves.now.count) × (j < ceilings.moves) }
+    ensures { result ≡ bad_move_at question.now.network.kinds (condition_of question.now.condition (moves_of moves.now.count moves.now.numbers)) j }
 {
-    let at = 3 * j;
-    if wide(numbers, at) >= condition.states {
-        return true;
-    }
-    if wide(numbers, at + 1) >= kinds {
-        return true;
-    }
-    wide(numbers, at + 2) >= condition.states
+    let m = moves.fetched(j);
+    let states = question.condition.states;
+    usize::from(m.from) >= states
+        || usize::from(m.kind) >= question.network.kinds
+        || usize::from(m.to) >= states
 }
 
-// The first such move, or the number of moves.
-fn first_bad_move(
-    kinds: usize,
-    condition: Condition,
-    moves: usize,
-    numbers: &[u16; Condition::NUMBERS],
-) -> usize
-    requires { moves ≤ ceilings.moves }
-    ensures { result ≡ least (bad_move_at kinds (condition_of condition (moves_of moves numbers.now))) moves }
+// The first such move is refused.
+fn bad_move(question: &Question, moves: &Gathered) -> Result<(), Refused>
+    requires { moves.now.count ≤ ceilings.moves }
+    ensures { result ≡ first_given (bad_move (asked question.now (moves_of moves.now.count moves.now.numbers)) ∷ []) }
 {
-    let mut j = 0;
-    while j < moves {
-        if bad_move(kinds, condition, moves, numbers, j) {
-            return j;
-        }
-        j += 1;
-    }
-    moves
+    unless_any(
+        moves.count,
+        Refusal::BadMove,
+        |j| bad_move_at(question, moves, j),
+    )
 }
 
 // "s or t not below V"
-fn bad_ends(network: Network, ask: Ask) -> bool
-    ensures { result ≡ not (ltb ask.from network.marks and ltb ask.to network.marks) }
+fn bad_ends(question: &Question) -> Result<(), Refused>
+    ensures { (m : List Move) → result ≡ first_given (bad_ends (asked question.now m) ∷ []) }
 {
-    if ask.from >= network.marks {
-        return true;
-    }
-    ask.to >= network.marks
+    let marks = question.network.marks;
+    let bad = question.ask.from >= marks || question.ask.to >= marks;
+    unless(bad, Refusal::BadEnds, 0)
 }
 
 // V×Q, the number of pairs of a mark and a state.
@@ -177,46 +152,24 @@ pub fn pairs(marks: usize, states: usize) -> usize
     marks * states
 }
 
-// Refusals 1 to 7: the first that is given.
-pub fn tested(
-    network: Network,
-    condition: Condition,
-    ask: Ask,
-    from: &[u16],
-    to: &[u16],
-    kinds: &[u32],
-    moves: usize,
-    numbers: &[u16; Condition::NUMBERS],
-    area: &[u16],
-) -> Verdict
-    ensures { result ≡ first_given (start_tests (question network condition ask from.now to.now kinds.now
-        (moves_of moves numbers.now)) area.now) }
+// "area shorter than V×Q words"
+fn short_area(question: &Question, area: &[u16]) -> Result<(), Refused>
+    requires { (question.now.network.marks ≤ ceilings.marks) × (question.now.condition.states ≤ ceilings.states) }
+    ensures { (m : List Move) → result ≡ first_given (short_area (asked question.now m) area.now ∷ []) }
 {
-    if bad_sizes(network, from, to, kinds) {
-        return Verdict::Refused(Refusal::Sizes, 0);
-    }
-    let ties = from.len();
-    let tie = first_bad_tie(network, ties, from, to, kinds);
-    let late = first_late(ties, to);
-    if tie < ties {
-        return Verdict::Refused(Refusal::BadTie, tie);
-    }
-    if late < ties {
-        return Verdict::Refused(Refusal::TieOrder, late);
-    }
-    if bad_states(condition, moves) {
-        return Verdict::Refused(Refusal::BadCondition, 0);
-    }
-    let wrong = first_bad_move(network.kinds, condition, moves, numbers);
-    if wrong < moves {
-        return Verdict::Refused(Refusal::BadMove, wrong);
-    }
-    if bad_ends(network, ask) {
-        return Verdict::Refused(Refusal::BadEnds, 0);
-    }
-    let words = pairs(network.marks, condition.states);
-    if area.len() < words {
-        return Verdict::Refused(Refusal::ShortArea, words);
-    }
-    Verdict::Passed
+    let words = pairs(question.network.marks, question.condition.states);
+    unless(area.len() < words, Refusal::ShortArea, words)
+}
+
+// Refusals 1 to 7: the first that is given.
+pub fn tested(question: &Question, moves: &Gathered, area: &[u16]) -> Result<(), Refused>
+    ensures { result ≡ first_given (start_tests (asked question.now (moves_of moves.now.count moves.now.numbers)) area.now) }
+{
+    sizes(question)?;
+    bad_tie(question)?;
+    tie_order(question)?;
+    bad_condition(question, moves)?;
+    bad_move(question, moves)?;
+    bad_ends(question)?;
+    short_area(question, area)
 }

@@ -1,6 +1,7 @@
 -- Two results of a call that meet its promise are equal, as the Rattle values that are handed back and as lists of words: each reading of an answer
 -- tells its cases apart, and the number of a refusal tells its name.
 use Prim.Native.Nat.{ℕ}
+use Rattle.std.specs.Prelude.{Result, Ok, Err}
 use mathlib.Core.Bool.{cond}
 use mathlib.Core.Path.{◌≡◌, refl, sym, ◌∙◌, ap}
 use lib.Dec.{eqb}
@@ -12,7 +13,8 @@ use Rattle.walk.specs.declared.Next.{Next}
 use Rattle.walk.specs.declared.Next.TheVariants as next
 use Rattle.walk.specs.Refusals.{number}
 use Rattle.walk.specs.Calls.{Answer, refused, gives, Reply, Chain, NoChain, End}
-use Rattle.walk.specs.Answers.{said_first, said_next, Unique}
+use Rattle.walk.specs.declared.Refused.{Refused}
+use Rattle.walk.specs.Answers.{said, reply_first, reply_next, said_first, said_next, Unique}
 
 -- the name of a number
 pub named : ℕ → Refusal
@@ -35,34 +37,39 @@ named_number ShortChain = refl
 named_number NotListed = refl
 
 -- each answer can be read back from what it says
-abbrev read_first : Answer Reply → First
-read_first (refused n p) = first.Refused (named n) p
-read_first (gives Chain) = first.Chain
-read_first (gives NoChain) = first.None
-read_first (gives End) = first.None
+abbrev read : {R A : Type 0} → (A → R) → Answer A → Result R Refused
+read back (refused n p) = Err (record { refusal = named n; place = p })
+read back (gives x) = Ok (back x)
 
-first_back : (a : First) → read_first (said_first a) ≡ a
-first_back first.Chain = refl
-first_back first.None = refl
-first_back (first.Refused n p) = ap (λ (x : Refusal). first.Refused x p) (named_number n)
-
-abbrev read_next : Answer Reply → Next
-read_next (refused n p) = next.Refused (named n) p
-read_next (gives Chain) = next.Chain
-read_next (gives NoChain) = next.End
-read_next (gives End) = next.End
-
-next-back : (a : Next) → read_next (said_next a) ≡ a
-next-back next.Chain = refl
-next-back next.End = refl
-next-back (next.Refused n p) = ap (λ (x : Refusal). next.Refused x p) (named_number n)
+read_said : {R A : Type 0} (found : R → A) (back : A → R) → ((x : R) → back (found x) ≡ x) → (a : Result R Refused) → read back (said found a) ≡ a
+read_said {R} found back e (Ok x) = ap (λ (y : R). Ok y) (e x)
+read_said found back e (Err x) = ap (λ (n : Refusal). Err (record { refusal = n; place = x.place })) (named_number x.refusal)
 
 -- so what meets a promise is one
-pub unique : {A R B : Type 0} (said : R → Answer A) (read : Answer A → R) → ((a : R) → read (said a) ≡ a) → Unique said B
-unique said read back d a b v w m n = (sym (back a) ∙ ap read (m.answers ∙ sym n.answers) ∙ back b, m.leaves ∙ sym n.leaves)
+pub unique : {R A B : Type 0} (found : R → A) (back : A → R) → ((x : R) → back (found x) ≡ x) → Unique (said found) B
+unique found back e d a b v w m n =
+    (sym (read_said found back e a) ∙ ap (read back) (m.answers ∙ sym n.answers) ∙ read_said found back e b, m.leaves ∙ sym n.leaves)
+
+abbrev first_of : Reply → First
+first_of Chain = first.Chain
+first_of NoChain = first.None
+first_of End = first.None
+
+first_back : (a : First) → first_of (reply_first a) ≡ a
+first_back first.Chain = refl
+first_back first.None = refl
 
 pub unique_first : (B : Type 0) → Unique said_first B
-unique_first B = unique said_first read_first first_back
+unique_first B = unique reply_first first_of first_back
+
+abbrev next_of : Reply → Next
+next_of Chain = next.Chain
+next_of NoChain = next.End
+next_of End = next.End
+
+next-back : (a : Next) → next_of (reply_next a) ≡ a
+next-back next.Chain = refl
+next-back next.End = refl
 
 pub unique_next : (B : Type 0) → Unique said_next B
-unique_next B = unique said_next read_next next-back
+unique_next B = unique reply_next next_of next-back

@@ -5,6 +5,7 @@
 
 ghost use Rattle.std.specs.Prelude.{◌≡◌};
 ghost use Rattle.walk.specs.Ceilings.{ceilings};
+ghost use Rattle.walk.specs.Refusals.{number};
 
 // A network's numbers of marks and kinds; its ties are lent as three columns.
 #[derive(Clone, Copy)]
@@ -62,6 +63,17 @@ pub struct Ask {
     pub to: usize,
 }
 
+// What a call is asked about, beside the moves: a network with its three columns, a condition, and two marks.
+#[derive(Clone, Copy)]
+pub struct Question<'a> {
+    pub network: Network,
+    pub condition: Condition,
+    pub ask: Ask,
+    pub from: &'a [u16],
+    pub to: &'a [u16],
+    pub kinds: &'a [u32],
+}
+
 #[derive(Clone, Copy)]
 pub enum Status {
     Found(usize),
@@ -85,12 +97,39 @@ pub enum Refusal {
     NotListed,
 }
 
+impl Refusal {
+    // Its number in the table.
+    pub fn number(self) -> usize
+        ensures { result ≡ number self }
+    {
+        match self {
+            Refusal::Sizes => 1,
+            Refusal::BadTie => 2,
+            Refusal::TieOrder => 3,
+            Refusal::BadCondition => 4,
+            Refusal::BadMove => 5,
+            Refusal::BadEnds => 6,
+            Refusal::ShortArea => 7,
+            Refusal::WrongArea => 8,
+            Refusal::Unfinished => 9,
+            Refusal::ShortChain => 10,
+            Refusal::NotListed => 11,
+        }
+    }
+}
+
+// The error of every call: why it is refused, and the place.
+#[derive(Clone, Copy)]
+pub struct Refused {
+    pub refusal: Refusal,
+    pub place: usize,
+}
+
 // The answer of first: the earliest chain stands in the buffer, or there is none.
 #[derive(Clone, Copy)]
 pub enum First {
     Chain,
     None,
-    Refused(Refusal, usize),
 }
 
 // The answer of next: the chain after it stands in the buffer, or it was the last.
@@ -98,7 +137,6 @@ pub enum First {
 pub enum Next {
     Chain,
     End,
-    Refused(Refusal, usize),
 }
 
 // The ceilings side by side, to be held to the numbers that the definitions name.

@@ -1,55 +1,57 @@
--- Where the tests refuse, their row answers; with no chain there is none to give; where a length is found, the columns are cut to the ties and the
--- smallest ties are filled in.
-use Rattle.std.proofs.Common.{arith, drop, length, refl, sym, ◌≡◌}
-use Rattle.walk.specs.Answers.{network_of}
-use Rattle.walk.proofs.Back.{fill}
-use Rattle.back.specs.Chain.{Fillable}
-use Rattle.chains.specs.Following.{Cleared}
-use Rattle.chains.proofs.AskLaws.{first-refused, first-none, listable, cleared}
-use Rattle.chains.proofs.Listing.{first-fillable, first_meets}
-use Rattle.tables.proofs.StepLaws.{clear_new}
-use Rattle.rounds.proofs.Lending.{cut_all, of_cut, to_cut}
-use Rattle.back.specs.Over.{over_tie, ends_at}
+-- Where the tests refuse, their row answers; with no chain there is none to give; where a length is found, the smallest ties are filled in.
+use Rattle.std.proofs.Common.{arith, length, refl}
+use Rattle.std.specs.Prelude.{Ok, Some}
+use Rattle.std.proofs.lemmas.Result.{err_from_is_err_and}
+use Rattle.walk.specs.Answers.{asked}
+use Rattle.tables.specs.Lent.{moves_of}
+use Rattle.rounds.proofs.Lending.{few, sized}
+use Rattle.chains.specs.Asking.{Asks}
+use Rattle.chains.proofs.AskLaws.{first-refused, first-none, Listable, listable, over-is}
+use Rattle.chains.proofs.Listing.{first-fillable, first_meets, length-few}
 use Rattle.chains.proofs.first.Goals as goal
+use Rattle.chains.proofs.first.Goals.{In-Some}
 
-pub tested-requires : goal.tested-requires
-tested-requires c = clear_new 1024
+-- what the tests leave
+left : (c : In-Some) → let A = c.args in
+    Asks A.question.now (asked A.question.now (moves_of A.moves.now.count A.moves.now.numbers)) A.done A.area.now (length A.chain.now) (Ok (c.in_ok-lent.lent, Some c.in-Some.n))
+left c = rw c.in-Some.is at c.in_ok-lent.ensures
 
-pub slice_bounds-earliest-end-in-Found : goal.slice_bounds-earliest-end-in-Found
-slice_bounds-earliest-end-in-Found c = let e = (listable _ _ _ c.args.chain.now _ _ c.in-Found.ensures).prepared.accepted.sizes.columns.0 in omega arith
+found : (c : In-Some) → let A = c.args in
+    Listable (asked A.question.now (moves_of A.moves.now.count A.moves.now.numbers)) A.done A.area.now A.chain.now c.in_ok-lent.lent.steps.table c.in-Some.n
+found c = listable _ _ _ _ _ c.in_ok-lent.lent _ (left c)
 
-pub slice_bounds-earliest-end-in-Found-2 : goal.slice_bounds-earliest-end-in-Found-2
-slice_bounds-earliest-end-in-Found-2 c = let e = (listable _ _ _ c.args.chain.now _ _ c.in-Found.ensures).prepared.accepted.sizes.columns.1 in omega arith
+pub returns-in_err-lent : goal.returns-in_err-lent
+returns-in_err-lent c =
+    let (_, is, same) = err_from_is_err_and c.from_residual.result c.from_residual.ensures.1 in
+    rw (is, same) (first-refused _ _ _ _ _ (c.in_err-lent.ensures _ refl))
 
-pub earliest-requires : goal.earliest-requires
-earliest-requires c =
-    let A = c.args in
-    let n = c.in-Found.n in
-    let T = c.tested.new.table in
-    let found = listable _ _ _ A.chain.now _ _ c.in-Found.ensures in
-    let P = found.prepared in
-    let (g, h) = P.accepted.sizes.columns in
-    to_cut (cut_all A.from.now _ refl) (cut_all A.to.now _ (sym g)) (cut_all A.kinds.now _ (sym h))
-    (λ x y z. Cleared A.network A.condition.states (length A.from.now) A.ask x y z A.area.now n A.chain.now
-    × Fillable (network_of A.network x y z) (over_tie T A.area.now A.condition.states x z) n A.ask.to (ends_at A.area.now A.condition.states A.ask.to A.condition.accept n)) (
-      cleared A.network A.condition A.ask A.from.now A.to.now A.kinds.now _ _ A.area.now A.chain.now _ n found,
-      first-fillable _ _ _ _ _ P,
-    )
+pub returns-in_default : goal.returns-in_default
+returns-in_default c = let (p, e, _) = rw c.in_default.is at c.in_ok-lent.ensures in first-none _ _ _ _ (p _ refl) e
 
-pub returns-in-Refused : goal.returns-in-Refused
-returns-in-Refused c = first-refused _ _ _ _ _ _ (c.in-Refused.ensures _ refl)
+pub at_end-end-requires : goal.at_end-end-requires
+at_end-end-requires c =
+    let P = (found (goal.at.at_end-end-requires c).In-Some).prepared in
+    let a = P.accepted in
+    (sized _ _ _ _ (few c.args.question.now _ a) P.long, a.ends.0, a.ends.1, length-few _ _ _ _ _ P)
 
-pub returns-in-None : goal.returns-in-None
-returns-in-None c = let (p, e) = c.in-None.ensures in first-none _ _ _ _ (p _ refl) e
+pub ground-requires : goal.ground-requires
+ground-requires c =
+    let at = (goal.at.ground-requires c).In-Some in
+    let P = (found at).prepared in
+    rw (left at).2.0 (P.long, P.accepted.sizes.few)
 
-pub returns-in-Found : goal.returns-in-Found
-returns-in-Found c =
-    let A = c.args in
-    let n = c.in-Found.n in
-    let T = c.tested.new.table in
-    let found = listable _ _ _ A.chain.now _ _ c.in-Found.ensures in
-    let P = found.prepared in
-    let (g, h) = P.accepted.sizes.columns in
-    first_meets _ _ _ _ _ P A.chain.now _ found.passed
-    (of_cut (cut_all A.from.now _ refl) (cut_all A.to.now _ (sym g)) (cut_all A.kinds.now _ (sym h))
-    (λ x y z. c.earliest.new.chain ≡ fill (network_of A.network x y z) (over_tie T A.area.now A.condition.states x z) n A.ask.to (ends_at A.area.now A.condition.states A.ask.to A.condition.accept n) (drop n A.chain.now)) c.earliest.ensures)
+pub before-requires : goal.before-requires
+before-requires c =
+    let at = (goal.at.before-requires c).In-Some in
+    let L = found at in
+    let (N, B, M) = over-is c.in_ok-lent.lent c.args.question.now _ c.ground.result c.ground.ensures (left at).2.0 in
+    let (E, S) = c.at_end-end.ensures in
+    (rw M E.below, omega (arith, length-few _ _ _ _ _ L.prepared), L.room, rw (N, B, E.is, S) (first-fillable _ _ _ _ _ L.prepared))
+
+pub returns : goal.returns
+returns c =
+    let at = (goal.at.returns c).In-Some in
+    let L = found at in
+    let (N, B, _) = over-is c.in_ok-lent.lent c.args.question.now _ c.ground.result c.ground.ensures (left at).2.0 in
+    let (E, S) = c.at_end-end.ensures in
+    first_meets _ _ _ _ _ L.prepared c.args.chain.now _ L.passed (rw (N, B, E.is, S) at c.before-2.ensures)

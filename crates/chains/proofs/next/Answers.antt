@@ -1,57 +1,59 @@
--- Where the tests refuse, their row answers; with no chain none handed in is listed; where a length is found, the columns are cut to the ties, and
--- what is seen of the chain in the buffer says what is answered and left.
-use Rattle.std.proofs.Common.{arith, length, refl, sym, true, ◌≡◌}
-use Rattle.walk.specs.Answers.{network_of}
-use Rattle.walk.proofs.Sets.{nonempty}
-use Rattle.chains.specs.Following.{Cleared, Raisable, seen_in, Followed}
-use Rattle.chains.proofs.AskLaws.{next-refused, next-none, listable, cleared}
-use Rattle.chains.proofs.Listing.{alive_there, raisable, next_meets}
-use Rattle.tables.proofs.StepLaws.{clear_new}
-use Rattle.rounds.proofs.Lending.{cut_all, of_cut, to_cut}
-use Rattle.back.specs.Over.{over_tie, ends_at}
+-- Where the tests refuse, their row answers; with no chain none handed in is listed; where a length is found, what is seen of the chain in the buffer
+-- says what is answered and left.
+use Rattle.std.proofs.Common.{length, refl}
+use Rattle.std.specs.Prelude.{Ok, Some}
+use Rattle.std.proofs.lemmas.Result.{err_from_is_err_and}
+use Rattle.walk.specs.Answers.{asked}
+use Rattle.tables.specs.Lent.{moves_of}
+use Rattle.rounds.proofs.Lending.{few, sized}
+use Rattle.chains.specs.Asking.{Asks}
+use Rattle.chains.proofs.AskLaws.{next-refused, next-none, Listable, listable, over-is}
+use Rattle.chains.proofs.Listing.{alive_there, raisable, next_meets, length-few}
 use Rattle.chains.proofs.next.Goals as goal
+use Rattle.chains.proofs.next.Goals.{In-Some}
 
-pub tested-requires : goal.tested-requires
-tested-requires c = clear_new 1024
+-- what the tests leave
+left : (c : In-Some) → let A = c.args in
+    Asks A.question.now (asked A.question.now (moves_of A.moves.now.count A.moves.now.numbers)) A.done A.area.now (length A.chain.now) (Ok (c.in_ok-lent.lent, Some c.in-Some.n))
+left c = rw c.in-Some.is at c.in_ok-lent.ensures
 
-pub slice_bounds-later-end-in-Found : goal.slice_bounds-later-end-in-Found
-slice_bounds-later-end-in-Found c = let e = (listable _ _ _ c.args.chain.now _ _ c.in-Found.ensures).prepared.accepted.sizes.columns.0 in omega arith
+found : (c : In-Some) → let A = c.args in
+    Listable (asked A.question.now (moves_of A.moves.now.count A.moves.now.numbers)) A.done A.area.now A.chain.now c.in_ok-lent.lent.steps.table c.in-Some.n
+found c = listable _ _ _ _ _ c.in_ok-lent.lent _ (left c)
 
-pub slice_bounds-later-end-in-Found-2 : goal.slice_bounds-later-end-in-Found-2
-slice_bounds-later-end-in-Found-2 c = let e = (listable _ _ _ c.args.chain.now _ _ c.in-Found.ensures).prepared.accepted.sizes.columns.1 in omega arith
+pub returns-in_err-lent : goal.returns-in_err-lent
+returns-in_err-lent c =
+    let (_, is, same) = err_from_is_err_and c.from_residual.result c.from_residual.ensures.1 in
+    rw (is, same) (next-refused _ _ _ _ _ (c.in_err-lent.ensures _ refl))
+
+pub returns-in_default : goal.returns-in_default
+returns-in_default c = let (p, e, _) = rw c.in_default.is at c.in_ok-lent.ensures in next-none _ _ _ _ (p _ refl) e
+
+pub at_end-end-requires : goal.at_end-end-requires
+at_end-end-requires c =
+    let P = (found (goal.at.at_end-end-requires c).In-Some).prepared in
+    let a = P.accepted in
+    (sized _ _ _ _ (few c.args.question.now _ a) P.long, a.ends.0, a.ends.1, length-few _ _ _ _ _ P)
+
+pub ground-requires : goal.ground-requires
+ground-requires c =
+    let at = (goal.at.ground-requires c).In-Some in
+    let P = (found at).prepared in
+    rw (left at).2.0 (P.long, P.accepted.sizes.few)
 
 pub later-requires : goal.later-requires
 later-requires c =
-    let A = c.args in
-    let n = c.in-Found.n in
-    let T = c.tested.new.table in
-    let found = listable _ _ _ A.chain.now _ _ c.in-Found.ensures in
-    let P = found.prepared in
-    let (g, h) = P.accepted.sizes.columns in
-    to_cut (cut_all A.from.now _ refl) (cut_all A.to.now _ (sym g)) (cut_all A.kinds.now _ (sym h))
-    (λ x y z. Cleared A.network A.condition.states (length A.from.now) A.ask x y z A.area.now n A.chain.now
-    × (nonempty (ends_at A.area.now A.condition.states A.ask.to A.condition.accept n) ≡ true)
-    × Raisable (network_of A.network x y z) (over_tie T A.area.now A.condition.states x z) n
-    (seen_in (network_of A.network x y z) (over_tie T A.area.now A.condition.states x z) n A.ask.to (ends_at A.area.now A.condition.states A.ask.to A.condition.accept n) A.chain.now)) (
-      cleared A.network A.condition A.ask A.from.now A.to.now A.kinds.now _ _ A.area.now A.chain.now _ n found,
-      alive_there _ _ _ _ _ P,
-      raisable _ _ _ _ _ P A.chain.now found.room,
-    )
+    let at = (goal.at.later-requires c).In-Some in
+    let L = found at in
+    let P = L.prepared in
+    let (N, B, M) = over-is c.in_ok-lent.lent c.args.question.now _ c.ground.result c.ground.ensures (left at).2.0 in
+    let (E, S) = c.at_end-end.ensures in
+    (rw M E.below, length-few _ _ _ _ _ P, L.room, rw S (alive_there _ _ _ _ _ P), rw (N, B, E.is, S) (raisable _ _ _ _ _ P c.args.chain.now L.room))
 
-pub returns-in-Refused : goal.returns-in-Refused
-returns-in-Refused c = next-refused _ _ _ _ _ _ (c.in-Refused.ensures _ refl)
-
-pub returns-in-None : goal.returns-in-None
-returns-in-None c = let (p, e) = c.in-None.ensures in next-none _ _ _ _ (p _ refl) e
-
-pub returns-in-Found : goal.returns-in-Found
-returns-in-Found c =
-    let A = c.args in
-    let n = c.in-Found.n in
-    let T = c.tested.new.table in
-    let found = listable _ _ _ A.chain.now _ _ c.in-Found.ensures in
-    let P = found.prepared in
-    let (g, h) = P.accepted.sizes.columns in
-    next_meets _ _ _ _ _ P A.chain.now _ _ found.room found.passed
-    (of_cut (cut_all A.from.now _ refl) (cut_all A.to.now _ (sym g)) (cut_all A.kinds.now _ (sym h))
-    (λ x y z. Followed (network_of A.network x y z) (over_tie T A.area.now A.condition.states x z) n A.ask.to (ends_at A.area.now A.condition.states A.ask.to A.condition.accept n) A.chain.now c.later.result c.later.new.chain) c.later.ensures)
+pub returns : goal.returns
+returns c =
+    let at = (goal.at.returns c).In-Some in
+    let L = found at in
+    let (N, B, _) = over-is c.in_ok-lent.lent c.args.question.now _ c.ground.result c.ground.ensures (left at).2.0 in
+    let (E, S) = c.at_end-end.ensures in
+    next_meets _ _ _ _ _ L.prepared c.args.chain.now _ _ L.room L.passed (rw (N, B, E.is, S) at c.later.ensures)

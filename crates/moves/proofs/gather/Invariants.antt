@@ -1,10 +1,7 @@
 -- The loop's invariant: the numbers of the first j moves are written.
-use Rattle.std.proofs.Common.{◌≡◌, ◌≤◌, ◌-◌}
+use Rattle.std.proofs.Common.{◌≡◌}
 use Rattle.moves.specs.Gathering.{filled}
 use Rattle.moves.proofs.gather.Given as goal
 
 abbrev pub invariant-loop-j : goal.invariant-loop-j
-invariant-loop-j l = (l.j ≤ l.n) × (l.numbers ≡ filled l.j l.moves)
-
-abbrev pub decreases-loop-j : goal.decreases-loop-j
-decreases-loop-j l = l.n - l.j
+invariant-loop-j l = l.numbers ≡ filled l.j l.moves

@@ -1,11 +1,7 @@
--- The loop's invariant: the first q words are 0 at the start states and 65535 elsewhere.
-use Rattle.std.proofs.Common.{cond, ◌-◌, ◌≤◌}
-use Rattle.walk.specs.Numbers.{has}
-use Rattle.rows.specs.Rows.{Row}
+-- The loop's invariant: the words of the start states that were passed are 0, and the others 65535.
+use Rattle.std.proofs.Common.{◌≡◌}
+use Rattle.rows.proofs.RowLaws.{Started}
 use Rattle.rows.proofs.opening.Given as goal
 
 abbrev pub invariant-loop-q : goal.invariant-loop-q
-invariant-loop-q l = (l.q ≤ l.states) × Row l.row l.q (λ i. cond (has l.condition.start i) 0 65535)
-
-abbrev pub decreases-loop-q : goal.decreases-loop-q
-decreases-loop-q l = l.states - l.q
+invariant-loop-q l = (l.q-iterator.set ≡ l.fn.condition.start) × Started l.row l.fn.condition.start l.q-iterator.at

@@ -1,12 +1,8 @@
--- The loop's invariant: `found` holds the states below n that lead on, `rest` the states from n on, shifted down.
-use Rattle.std.proofs.Common.{◌-◌, ◌/◌, ◌^◌, ◌≡◌, ◌≤◌}
+-- The loop's invariant: `found` holds the states that lead on, of those before the ones that are still to come.
+use Rattle.std.proofs.Common.{◌≡◌}
 use Rattle.back.specs.Over.{leads_into}
 use Rattle.back.proofs.OverLaws.{UpTo}
 use Rattle.back.proofs.step.leading.Given as goal
 
-abbrev pub invariant-loop-rest : goal.invariant-loop-rest
-invariant-loop-rest l =
-    (l.n ≤ 32) × (l.rest ≡ l.set / 2 ^ l.n) × UpTo l.found l.set (leads_into l.table l.carried l.alive) l.n
-
-abbrev pub decreases-loop-rest : goal.decreases-loop-rest
-decreases-loop-rest l = 32 - l.n
+abbrev pub invariant-loop-n : goal.invariant-loop-n
+invariant-loop-n l = (l.n-iterator.set ≡ l.set) × UpTo l.found l.set (leads_into l.steps.table l.carried l.alive) l.n-iterator.at

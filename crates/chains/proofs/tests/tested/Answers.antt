@@ -1,22 +1,18 @@
 -- Refusals 9 and 10 are decided by the status that the tests of a round leave.
-use Rattle.std.proofs.Common.{sym, subst}
-use Rattle.walk.specs.Answers.{question}
-use Rattle.tables.specs.Lent.{moves_of}
-use Rattle.tables.proofs.StepLaws.{clear_new}
-use Rattle.chains.specs.declared.tests.Asked.{Asked}
-use Rattle.chains.specs.Asking.{Asks}
-use Rattle.chains.proofs.AskLaws.{refused-early, asks}
+use Rattle.std.proofs.Common.{sym}
+use Rattle.std.proofs.lemmas.Result.{err_from_is_err_and}
+use Rattle.chains.proofs.AskLaws.{refused-early, asks_err, asks_ok}
 use Rattle.chains.proofs.tests.tested.Goals as goal
 
-pub tested-requires : goal.tested-requires
-tested-requires c = (c.requires, clear_new 32)
+pub returns-in_err-lent : goal.returns-in_err-lent
+returns-in_err-lent c =
+    let (_, is, same) = err_from_is_err_and c.from_residual.result c.from_residual.ensures.1 in
+    rw (is, same) (λ x l. refused-early _ _ _ _ c.in_err-lent.ensures x)
 
-pub returns-in-Refused : goal.returns-in-Refused
-returns-in-Refused c = λ x l. refused-early _ _ _ _ _ c.in-Refused.ensures x
+pub returns-in_err-length : goal.returns-in_err-length
+returns-in_err-length c =
+    let (_, is, same) = err_from_is_err_and c.from_residual-in_err-length.result c.from_residual-in_err-length.ensures.1 in
+    rw (is, same) (asks_err _ _ _ _ _ c.in_ok-lent.lent _ _ c.in_ok-lent.ensures (sym c.in_err-length.ensures))
 
-pub returns-in-At : goal.returns-in-At
-returns-in-At c =
-    let A = c.args in
-    let D = question A.network A.condition A.ask A.from.now A.to.now A.kinds.now (moves_of A.moves A.numbers.now) in
-    subst (λ (x : Asked). Asks D A.done A.area.now A.room c.tested.new.table x) (sym c.by_status.ensures)
-    (asks D _ _ A.room c.tested.new.table c.tested.new.sources _ c.in-At.ensures)
+pub returns : goal.returns
+returns c = asks_ok _ _ _ _ _ c.in_ok-lent.lent _ _ c.in_ok-lent.ensures (sym c.in_ok-length.ensures)

@@ -1,13 +1,6 @@
 -- What is gathered of the moves stands for the list that is lent, and the call answers alike on both.
-use Rattle.std.proofs.Common.{subst}
-use Rattle.moves.specs.declared.Gathered.{Gathered}
-use Rattle.moves.proofs.Brought.{list_of}
-use Rattle.desk.proofs.Told.{Opened, opened}
+use Rattle.desk.proofs.Told.{opened}
 use Rattle.desk.proofs.Rounds.first.Goals as goal
 
 pub returns : goal.returns
-returns c =
-    let A = c.args in
-    opened A.self A.network A.condition A.ask A.from.now A.to.now A.kinds.now A.moves.now A.area.now A.chain.now c.first.result c.first.new.chain
-    (subst (λ (g : Gathered). Opened A.self A.network A.condition A.ask A.from.now A.to.now A.kinds.now (list_of g) A.area.now A.chain.now c.first.result c.first.new.chain)
-    c.gather.ensures c.first.ensures)
+returns c = let A = c.args in opened A.question.now A.moves.now _ c.gather.ensures _ _ _ _ _ c.first.ensures

@@ -1,13 +1,6 @@
 -- What is gathered of the moves stands for the list that is lent, and the call answers alike on both.
-use Rattle.std.proofs.Common.{subst}
-use Rattle.moves.specs.declared.Gathered.{Gathered}
-use Rattle.moves.proofs.Brought.{list_of}
-use Rattle.desk.proofs.Told.{Started, started}
+use Rattle.desk.proofs.Told.{started}
 use Rattle.desk.proofs.Rounds.start.Goals as goal
 
 pub returns : goal.returns
-returns c =
-    let A = c.args in
-    started A.network A.condition A.ask A.from.now A.to.now A.kinds.now A.moves.now A.area.now c.start.result c.start.new.area
-    (subst (λ (g : Gathered). Started A.network A.condition A.ask A.from.now A.to.now A.kinds.now (list_of g) A.area.now c.start.result c.start.new.area)
-    c.gather.ensures c.start.ensures)
+returns c = let A = c.args in started A.question.now A.moves.now _ c.gather.ensures _ _ _ (rw c.counted.ensures c.start.ensures)

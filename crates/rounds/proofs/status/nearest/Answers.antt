@@ -1,16 +1,22 @@
--- `status::nearest` meets its contract: `lesser` takes one word more, and with all words taken `best` is the nearest.
-use Rattle.std.proofs.Common.{arith, refl, ◌≡◌}
-use Rattle.rounds.proofs.Standing.{near_none, near_more, near_end}
+-- `status::nearest` meets its contract: an accepting state's word is one more that `best` is the least of, and with all words taken `best` is the
+-- nearest.
+use Rattle.std.proofs.Common.{arith, ◌≡◌}
+use Rattle.rounds.proofs.Standing.{near_none, near_skip, near_word, near_end}
+use Rattle.rounds.proofs.status.nearest.Goals.{then-among, else-among}
 use Rattle.rounds.proofs.status.nearest.Goals as goal
 
 pub loop-q-init : goal.loop-q-init
-loop-q-init c = (omega arith, near_none c.args.words.now c.args.condition.accept _)
+loop-q-init c = near_none c.args.words.now c.args.condition.accept _
 
 pub loop-q-preserved : goal.loop-q-preserved
 loop-q-preserved c =
-    (omega arith, rw c.lesser-best.ensures (near_more _ _ _ _ _ _ _ (rw c.tested.ensures.is at c.among.ensures) refl c.loop-q.invariant.1))
+    let among = c.tested.ensures.is in
+    elim c.if-among.branch [
+      | then-among w ↦ rw (w.best-is, w.min-best.ensures) (near_word _ _ _ _ _ c.loop-q.invariant (rw among at w.if-among.ensures))
+      | else-among w ↦ rw w.best-is (near_skip _ _ _ _ _ c.loop-q.invariant (rw among at w.if-among.ensures))
+    ]
 
 pub returns : goal.returns
 returns c =
     let e : c.loop-q.q ≡ c.args.condition.states = omega arith in
-    near_end _ _ _ _ _ (rw e at c.loop-q.invariant.1)
+    near_end _ _ _ _ _ (rw e at c.loop-q.invariant)

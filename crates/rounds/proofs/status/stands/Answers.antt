@@ -1,22 +1,7 @@
--- `status::stands` meets its contract: the word that is r is found, or one more is passed.
-use Rattle.std.proofs.Common.{arith, refl, sym}
-use borrow.Author.Tests.{eq-eqb, ne_eqb}
-use Rattle.walk.proofs.Numbers.{any_below_of}
-use Rattle.walk.specs.Numbers.{any_below}
-use Rattle.rounds.specs.Standing.{stands}
-use Rattle.rows.proofs.RowLaws.{any_none}
+-- `status::stands` meets its contract: `contains` asks the words one by one, as the definition does.
+use Rattle.std.proofs.Common.{◌∙◌}
+use Rattle.rounds.proofs.Standing.{stands_any}
 use Rattle.rounds.proofs.status.stands.Goals as goal
 
-pub loop-i-init : goal.loop-i-init
-unfolding stands any_below
-loop-i-init c = (omega arith, refl)
-
-pub returns-then-area-i : goal.returns-then-area-i
-unfolding stands
-returns-then-area-i c =
-    sym (any_below_of _ _ c.loop-i.i (omega arith) (eq-eqb _ _ c.if-area-i.true))
-
-pub loop-i-preserved : goal.loop-i-preserved
-unfolding stands
-loop-i-preserved c =
-    (omega arith, any_none _ _ c.loop-i.invariant.1 (ne_eqb _ _ c.if-area-i.false))
+pub returns : goal.returns
+returns c = c.contains.ensures.value ∙ stands_any c.args.area.now c.args.n c.args.r c.requires

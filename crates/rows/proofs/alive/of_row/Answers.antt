@@ -1,12 +1,11 @@
 -- `alive::of_row` meets its contract: `join` adds the state at hand if its word lies in the range.
-use Rattle.std.proofs.Common.{arith}
 use Rattle.rows.proofs.AliveLaws.{alive-row-none, alive-row-more}
 use Rattle.rows.proofs.alive.of_row.Goals as goal
 
 pub loop-p-init : goal.loop-p-init
-loop-p-init c = (omega arith, alive-row-none c.args.words.now _ _)
+loop-p-init c = alive-row-none c.args.words.now _ _
 
 pub loop-p-preserved : goal.loop-p-preserved
 loop-p-preserved c =
     let S = c.args in
-    (omega arith, alive-row-more S.words.now _ _ _ S.lo S.hi c.loop-p.invariant.1 (rw c.tested.ensures.is at c.join-set.ensures))
+    alive-row-more S.words.now _ _ _ S.lo S.hi c.loop-p.invariant (rw c.tested.ensures.is at c.join-set.ensures)

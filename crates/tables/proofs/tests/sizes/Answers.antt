@@ -1,0 +1,10 @@
+-- `tables::tests::sizes` meets its contract: the parts of the test are those of the row.
+use Rattle.std.proofs.Common.{arith}
+use Rattle.std.proofs.lemmas.Bool.Decides.{nat_tests}
+use Rattle.walk.specs.Numbers.{◌and◌}
+use Rattle.walk.specs.Refusals.{bad_sizes, sizes}
+use Rattle.tables.proofs.tests.sizes.Goals as goal
+
+pub returns : goal.returns
+unfolding sizes bad_sizes ◌and◌
+returns c m = grind (arith, nat_tests)
