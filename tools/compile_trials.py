@@ -12,7 +12,7 @@ import tempfile
 
 HERE = pathlib.Path(__file__).resolve().parent.parent
 TRIALS = [
-    ("a tie for a mark", "rows", "offers.rt", "place(u, self.states", "place(e, self.states", "expected `Number<Marks>`, found `Number<Ties>`"),
+    ("a tie for a mark", "rows", "offers.rt", "self.words.row(u)", "self.words.row(e)", "expected `Number<Marks>`, found `Number<Ties>`"),
     ("a mark for a tie", "tables", "runs.rt", "Tie::tested(e, ties).enters(", "v.enters(",
      "the method `enters` takes `self` as `Number<Ties>`, and is called on `Number<Marks>`"),
     ("a mark for a tie of a chain", "back", "fill.rt", "chain[i] = taken.tie.word()", "chain[i] = at.mark.word()",

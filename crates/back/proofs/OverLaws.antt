@@ -16,7 +16,7 @@ use Rattle.walk.specs.Numbers.{has, ◌and◌, set_below}
 use Rattle.walk.proofs.Numbers.{Yes, and_in, and_of, or_in, eqb_of, any_below_in, any_below_of, yes_same}
 use Rattle.walk.proofs.Sets.{nonempty, in_some, set_is}
 use Rattle.tables.specs.Steps.{steps}
-use Rattle.tables.specs.Sets.{Lowest}
+use Rattle.tables.specs.Sets.{LowestFrom}
 use Rattle.tables.proofs.SetLaws.{has-and, has-none}
 use Rattle.tables.proofs.StepLaws.{no_and, yes_and}
 use Rattle.rows.specs.Rows.{row, between, Joined, AliveRow}
@@ -31,7 +31,7 @@ UpTo x set f n = (p : ℕ) → has x p ≡ (ltb p n and (has set p and f p))
 pub up-to-none : (set : ℕ) (f : ℕ → Bool) → UpTo 0 set f 0
 up-to-none set f p = has-none p ∙ sym (no_and (ltb p 0) _ (le-ltb p 0 zero-le))
 
-pub up-to-more : (set at n : ℕ) (f : ℕ → Bool) (s x : ℕ) → Lowest set at n → UpTo s set f at → Joined x s n (f n) → UpTo x set f (n + 1)
+pub up-to-more : (set at n : ℕ) (f : ℕ → Bool) (s x : ℕ) → LowestFrom set at n → UpTo s set f at → Joined x s n (f n) → UpTo x set f (n + 1)
 up-to-more set at n f s x W h j p = yes_same there back
   where
     there : Yes (has x p) → Yes (ltb p (n + 1) and (has set p and f p))

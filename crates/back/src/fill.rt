@@ -11,7 +11,7 @@ use crate::ground::{At, Ground};
 impl<'a> Ground<'a> {
     // The first n places of the chain are filled back from a mark, where at each of them some tie is usable.
     pub fn before(&self, n: usize, from: At, chain: &mut [u16])
-        requires { (from.mark.0 < self.now.words.network.marks) × (n ≤ ceilings.unreached) × (n ≤ length chain.old)
+        requires { (from.mark.0 < self.now.step.words.marks) × (n ≤ ceilings.unreached) × (n ≤ length chain.old)
             × Fillable (net self.now) (back self.now) n from.mark.0 from.alive }
         ensures { chain.new ≡ fill (net self.now) (back self.now) n from.mark.0 from.alive (drop n chain.old) }
     {
@@ -20,7 +20,7 @@ impl<'a> Ground<'a> {
             let taken = self.pick(at, 0, i as u16).unwrap();
             chain[i] = taken.tie.word();
             at = At {
-                mark: taken.tie.leaves(self.from, self.words.network.marks),
+                mark: taken.tie.leaves(self.from, self.step.words.marks),
                 alive: taken.alive,
             };
         }

@@ -5,7 +5,7 @@ ghost use Rattle.walk.specs.Ceilings.{ceilings};
 ghost use Rattle.tables.specs.Runs.{Rising};
 ghost use Rattle.rows.specs.Offers.{TiesIn};
 
-use crate::step::Words;
+use crate::step::Step;
 use tables::numbers::{Mark, Tie};
 
 #[derive(Clone, Copy)]
@@ -13,9 +13,9 @@ pub struct Ground<'a> {
     pub from: &'a [u16],
     pub to: &'a [u16],
     pub kinds: &'a [u32],
-    pub words: Words<'a>,
-    ghost columns: { TiesIn words.network.marks words.network.kinds (length from.now) from.now kinds.now },
-    ghost rising: { Rising to.now (length to.now) words.network.marks },
+    pub step: Step<'a>,
+    ghost columns: { TiesIn step.words.marks step.kinds (length from.now) from.now kinds.now },
+    ghost rising: { Rising to.now (length to.now) step.words.marks },
     ghost same: { length to.now ≡ length from.now },
     ghost few: { length from.now ≤ ceilings.ties },
 }

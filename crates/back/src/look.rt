@@ -40,16 +40,16 @@ impl From<Unlisted> for Refused {
 impl<'a> Ground<'a> {
     // The tie that a word of the chain names, if it enters the mark and a state is alive before it.
     fn stepped(&self, word: u16, at: At, i: u16) -> Option<Taken>
-        requires { (at.mark.0 < self.now.words.network.marks) × (i < ceilings.unreached) }
+        requires { (at.mark.0 < self.now.step.words.marks) × (i < ceilings.unreached) }
         ensures { result ≡ stepped (net self.now) (back self.now) at.mark.0 i at.alive word }
     {
-        let marks = self.words.network.marks;
+        let marks = self.step.words.marks;
         let tie = Tie::checked(usize::from(word), self.from.len())?;
         let u = tie.leaves(self.from, marks);
-        if tie.enters(self.to, marks).index() != at.mark.index() {
+        if tie.enters(self.to, marks) != at.mark {
             return None;
         }
-        let alive = self.words.over(u, tie.kinds(self.kinds), i, at.alive);
+        let alive = self.step.over(u, tie.kinds(self.kinds), i, at.alive);
         if alive == 0 {
             return None;
         }
@@ -58,7 +58,7 @@ impl<'a> Ground<'a> {
 
     // The chain is walked back from its end: a place of it that can be raised, if there is one.
     pub fn look(&self, chain: &[u16], end: At) -> Result<Option<Raised>, Unlisted>
-        requires { (end.mark.0 < self.now.words.network.marks) × (length chain.now ≤ ceilings.unreached) × (nonempty end.alive ≡ true) }
+        requires { (end.mark.0 < self.now.step.words.marks) × (length chain.now ≤ ceilings.unreached) × (nonempty end.alive ≡ true) }
         ensures { result ≡ seen (goes (net self.now) (back self.now) end.mark.0 end.alive 0 chain.now)
             (raise (net self.now) (back self.now) end.mark.0 end.alive 0 chain.now) }
     {
@@ -70,7 +70,7 @@ impl<'a> Ground<'a> {
                 best = Some(Raised { place: i, taken });
             }
             at = At {
-                mark: taken.tie.leaves(self.from, self.words.network.marks),
+                mark: taken.tie.leaves(self.from, self.step.words.marks),
                 alive: taken.alive,
             };
         }

@@ -1,15 +1,15 @@
 // One step back, over one tie: the states alive before it.
 
-ghost use Rattle.std.specs.Prelude.{◌≡◌, ◌*◌, ◌≤◌, ◌<◌, length};
+ghost use Rattle.std.specs.Prelude.{◌≡◌, ◌≤◌, ◌<◌};
 ghost use Rattle.walk.specs.Ceilings.{ceilings};
-ghost use Rattle.rows.specs.Rows.{Sized};
 ghost use Rattle.rows.specs.Offers.{Within};
 ghost use Rattle.back.specs.Over.{Leading, over, ends_at};
 
+use rows::Words;
+use rows::alive::of_row;
 use tables::numbers::{Mark, State};
 use tables::sets::{Elements, with};
 use tables::steps::Steps;
-use walk::{Condition, Network};
 
 // The states of a set from which a tie with these kinds leads to a state alive.
 fn leading(steps: &Steps, carried: u32, kinds: usize, set: u32, states: usize, alive: u32) -> u32
@@ -28,34 +28,35 @@ fn leading(steps: &Steps, carried: u32, kinds: usize, set: u32, states: usize, a
 
 // What a step back looks at: the words of an area, and the step table.
 #[derive(Clone, Copy)]
-pub struct Words<'a> {
-    pub network: Network,
-    pub states: usize,
-    pub area: &'a [u16],
+pub struct Step<'a> {
+    pub words: Words<'a>,
+    pub kinds: usize,
     pub steps: &'a Steps,
-    ghost size: { Sized network.marks network.kinds states area.now },
+    ghost few: { kinds ≤ ceilings.kinds },
 }
 
-impl<'a> Words<'a> {
+impl<'a> Step<'a> {
     // The states alive before a tie that leaves u with these kinds, when i ties are to come before it.
     pub fn over(&self, u: Mark, carried: u32, i: u16, alive: u32) -> u32
-        requires { (u.0 < self.now.network.marks) × Within carried self.now.network.kinds × (i < ceilings.unreached) }
-        ensures { result ≡ over self.now.steps.now.table self.now.area.now self.now.states u.0 carried i alive }
+        requires { (u.0 < self.now.words.marks) × Within carried self.now.kinds × (i < ceilings.unreached) }
+        ensures { result ≡ over self.now.steps.now.table self.now.words.area.now self.now.words.states u.0 carried i alive }
     {
-        let states = self.states;
-        let at = rows::place(u, states, self.network.marks);
-        let set = rows::alive::of_row(&self.area[at..at + states], states, i, i + 1);
-        leading(self.steps, carried, self.network.kinds, set, states, alive)
+        let set = of_row(self.words.row(u), i, i + 1);
+        leading(
+            self.steps,
+            carried,
+            self.kinds,
+            set,
+            self.words.states,
+            alive,
+        )
     }
 }
 
 // The states alive at t: the accepting ones with the word n.
-pub fn ends(area: &[u16], marks: usize, condition: Condition, t: Mark, n: u16) -> u32
-    requires { (t.0 < marks) × (marks ≤ ceilings.marks) × (condition.states ≤ ceilings.states)
-        × (marks * condition.states ≤ length area.now) × (n < ceilings.unreached) }
-    ensures { result ≡ ends_at area.now condition.states t.0 condition.accept n }
+pub fn ends(words: &Words, accept: u32, t: Mark, n: u16) -> u32
+    requires { (t.0 < words.now.marks) × (n < ceilings.unreached) }
+    ensures { result ≡ ends_at words.now.area.now words.now.states t.0 accept n }
 {
-    let states = condition.states;
-    let at = rows::place(t, states, marks);
-    rows::alive::of_row(&area[at..at + states], states, n, n + 1) & condition.accept
+    of_row(words.row(t), n, n + 1) & accept
 }

@@ -9,7 +9,7 @@
 
 #![tactic(auto)]
 
-ghost use Rattle.std.specs.Prelude.{◌≡◌, ◌+◌, ◌≤◌, ◌<◌, length};
+ghost use Rattle.std.specs.Prelude.{ℕ, ◌+◌, ◌≤◌, ◌<◌, length};
 
 use desk::held::Held;
 use desk::{Prepared, Rounds, held};
@@ -71,20 +71,12 @@ fn put_long(said: &mut [u8; 128], i: usize, n: usize)
     put(said, i + 1, (n >> 16 & 0xffff) as u16);
 }
 
-// A column, from word i of the call on.
-fn column(asked: &[u8; 384], i: usize, words: &mut [u16])
-    requires { i + length words.old ≤ 192 }
+// The words of a column, each as the call has it.
+fn fill<T: Copy, F: Fn(usize) -> T>(words: &mut [T], at: F)
+    requires { (j : ℕ) → j < length words.old → F.pre at j }
 {
     for j in 0..words.len() {
-        words[j] = word(asked, i + j);
-    }
-}
-
-fn sets(asked: &[u8; 384], i: usize, words: &mut [u32])
-    requires { i + length words.old + length words.old ≤ 192 }
-{
-    for j in 0..words.len() {
-        words[j] = long(asked, i + 2 * j);
+        words[j] = at(j);
     }
 }
 
@@ -200,11 +192,11 @@ fn answer(
 
 fn with_ties(asked: &[u8; 384], said: &mut [u8; 128], area: &mut [u16], chain: &mut [u16]) {
     let mut from = [0u16; 16];
-    column(asked, 18, &mut from);
+    fill(&mut from, |j| word(asked, 18 + j));
     let mut to = [0u16; 16];
-    column(asked, 34, &mut to);
+    fill(&mut to, |j| word(asked, 34 + j));
     let mut kinds = [0u32; 16];
-    sets(asked, 50, &mut kinds);
+    fill(&mut kinds, |j| long(asked, 50 + 2 * j));
     let question = Question {
         network: network(asked),
         condition: condition(asked),
@@ -218,9 +210,9 @@ fn with_ties(asked: &[u8; 384], said: &mut [u8; 128], area: &mut [u16], chain: &
 
 fn turn(asked: &[u8; 384], said: &mut [u8; 128]) {
     let mut area = [0u16; 40];
-    column(asked, 118, &mut area);
+    fill(&mut area, |j| word(asked, 118 + j));
     let mut chain = [0u16; 12];
-    column(asked, 158, &mut chain);
+    fill(&mut chain, |j| word(asked, 158 + j));
     let a = within(asked, 10, 40);
     let c = within(asked, 11, 12);
     with_ties(asked, said, &mut area[..a], &mut chain[..c]);

@@ -114,7 +114,7 @@ listable q D r A c l n (G, e, (_, F)) =
 -- the ground of what is lent on, by the question that is asked
 pub over-is : (l : Lent) (q : lent.Question) (A : List ℕ) (g : Ground) → Over l A g → l.question ≡ q
     → (net g ≡ network_of q.network q.from.now q.to.now q.kinds.now)
-    × (back g ≡ over_tie l.steps.table A q.condition.states q.from.now q.kinds.now) × (g.words.network.marks ≡ q.network.marks)
+    × (back g ≡ over_tie l.steps.table A q.condition.states q.from.now q.kinds.now) × (g.step.words.marks ≡ q.network.marks)
 over-is l q A g O e = (O.net_is ∙ ap net_of e, O.back_is ∙ ap back_of e, O.marks_are ∙ ap (λ (z : lent.Question). z.network.marks) e)
   where
     net_of : lent.Question → Network

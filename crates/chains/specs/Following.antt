@@ -18,7 +18,7 @@ use Rattle.back.specs.Chain.{Fillable, seen}
 
 -- the ground g is that of what is lent, with the area A
 pub record Over (l : Lent) (A : List ℕ) (g : Ground) : Type 0 where
-  pub marks_are : g.words.network.marks ≡ l.question.network.marks
+  pub marks_are : g.step.words.marks ≡ l.question.network.marks
   pub net_is : net g ≡ network_of l.question.network l.question.from.now l.question.to.now l.question.kinds.now
   pub back_is : back g ≡ over_tie l.steps.table A l.question.condition.states l.question.from.now l.question.kinds.now
 

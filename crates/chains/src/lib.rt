@@ -18,8 +18,9 @@ ghost use Rattle.chains.specs.Following.{Over, raised_in, Raises, Raisable, seen
 
 use back::ground::{At, Ground};
 use back::look::Raised;
-use back::step::{Words, ends};
+use back::step::{Step, ends};
 use rounds::lent::Lent;
+use rows::Words;
 use tables::gathered::Gathered;
 use tables::numbers::Mark;
 use walk::{First, Next, Question, Refusal, Refused};
@@ -74,11 +75,15 @@ fn at_end(question: &Question, area: &[u16], n: usize) -> At
     ensures { Entered result.mark.0 question.now.ask.to question.now.network.marks
         × (result.alive ≡ ends_at area.now question.now.condition.states question.now.ask.to question.now.condition.accept n) }
 {
-    let marks = question.network.marks;
-    let mark = Mark::tested(question.ask.to, marks);
+    let words = Words {
+        area,
+        marks: question.network.marks,
+        states: question.condition.states,
+    };
+    let mark = Mark::tested(question.ask.to, words.marks);
     At {
         mark,
-        alive: ends(area, marks, question.condition, mark, n as u16),
+        alive: ends(&words, question.condition.accept, mark, n as u16),
     }
 }
 
@@ -89,22 +94,27 @@ fn ground<'a>(lent: &'a Lent<'a>, area: &'a [u16]) -> Ground<'a>
     ensures { Over lent.now area.now result }
 {
     let question = lent.question;
+    let words = Words {
+        area,
+        marks: question.network.marks,
+        states: question.condition.states,
+    };
+    let step = Step {
+        words,
+        kinds: question.network.kinds,
+        steps: &lent.steps,
+    };
     Ground {
         from: question.from,
         to: question.to,
         kinds: question.kinds,
-        words: Words {
-            network: question.network,
-            states: question.condition.states,
-            area,
-            steps: &lent.steps,
-        },
+        step,
     }
 }
 
 // The chain after the one that stands in the first n words, over a right area.
 fn later(ground: &Ground, end: At, n: usize, chain: &mut [u16]) -> Result<Next, Refused>
-    requires { (end.mark.0 < ground.now.words.network.marks) × (n < ceilings.unreached) × (n ≤ length chain.old)
+    requires { (end.mark.0 < ground.now.step.words.marks) × (n < ceilings.unreached) × (n ≤ length chain.old)
         × (nonempty end.alive ≡ true)
         × Raisable (net ground.now) (back ground.now) n (seen_in (net ground.now) (back ground.now) n end.mark.0 end.alive chain.old) }
     ensures { Followed (net ground.now) (back ground.now) n end.mark.0 end.alive chain.old result chain.new }
@@ -125,7 +135,7 @@ fn raise(ground: &Ground, raised: Raised, chain: &mut [u16])
     let tie = raised.taken.tie;
     chain[raised.place] = tie.word();
     let at = At {
-        mark: tie.leaves(ground.from, ground.words.network.marks),
+        mark: tie.leaves(ground.from, ground.step.words.marks),
         alive: raised.taken.alive,
     };
     ground.before(raised.place, at, chain);

@@ -1,6 +1,6 @@
 -- What the tests of a call leave of it. Then what the test of the area, refusal 8 and a round answer, for every list of moves that a step table stands
 -- for: they are lent the table and no moves.
-use Rattle.std.specs.Prelude.{ℕ, suc, Bool, true, cond, List, [], ◌∷◌, ◌++◌, ◌↔◌, ◌≡◌, take, drop, Result, Ok, Err}
+use Rattle.std.specs.Prelude.{ℕ, suc, ◌+◌, ◌*◌, get_or, Bool, true, cond, List, [], ◌∷◌, ◌++◌, ◌↔◌, ◌≡◌, take, drop, Result, Ok, Err}
 use Rattle.walk.specs.declared.Question as lent
 use Rattle.walk.specs.declared.Move.{Move}
 use Rattle.walk.specs.declared.Refused.{Refused}
@@ -12,6 +12,8 @@ use Rattle.walk.specs.Demands.{Accepted}
 use Rattle.walk.specs.Answers.{asked, Meets}
 use Rattle.tables.specs.Steps.{Tabled, Filled}
 use Rattle.tables.specs.Tests.{first_given}
+use Rattle.rows.specs.Rows.{Row}
+use Rattle.rows.specs.Offers.{Lowered, Between, OfTie}
 use Rattle.rounds.specs.declared.lent.Lent.{Lent}
 use Rattle.rounds.specs.Answers.{progress_of}
 
@@ -24,6 +26,12 @@ Judges q D r A (Ok (l, s)) =
 -- a round after refusals 1 to 8
 unfoldable pub turned : Question → ℕ → List ℕ → Done Progress (List ℕ)
 turned D r A = cond (is_going (status D r)) (prepared D (suc r) A) (leave (progress D r) A)
+
+-- b is the row of mark v in the area A, lowered by what the ties from `first` on, up to `end`, offer
+abbrev pub RowOffered : lent.Question → List ℕ → List ℕ → List ℕ → List ℕ → ℕ → ℕ → ℕ → List ℕ → Type 0
+RowOffered q T S L A v first end b =
+    (o : List ℕ) × Row o q.condition.states (λ i. get_or A (v * q.condition.states + i) 0)
+    × Lowered (Between first (OfTie T S L A q.condition.states q.from.now q.kinds.now) end) o b
 
 module _ (q : lent.Question) (T : List ℕ) where
   -- P holds of the question with any moves of which T is the step table, if refusals 1 to 6 have no reason

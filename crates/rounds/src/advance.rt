@@ -2,12 +2,16 @@
 
 ghost use Rattle.std.specs.Prelude.{◌+◌, ◌*◌, ◌≤◌, ◌<◌, length};
 ghost use Rattle.walk.specs.Ceilings.{ceilings};
-ghost use Rattle.rounds.specs.Judged.{IsRight, Advances};
+ghost use Rattle.rows.specs.Offers.{AllLiving};
+ghost use Rattle.rounds.specs.Judged.{IsRight, Advances, RowOffered};
 
 use crate::lent::Lent;
+use rows::Words;
 use rows::offers::Offers;
+use std::ops::Range;
 use tables::numbers::Mark;
 use tables::runs::Runs;
+use walk::{Condition, Network};
 
 // The right area for r rounds becomes the right one for r + 1.
 pub fn advance(lent: &Lent, r: u16, area: &mut [u16])
@@ -18,7 +22,12 @@ pub fn advance(lent: &Lent, r: u16, area: &mut [u16])
     let question = lent.question;
     let marks = question.network.marks;
     let states = question.condition.states;
-    let live = rows::alive::of_marks(area, marks, states, r, r + 1);
+    let words = Words {
+        area,
+        marks,
+        states,
+    };
+    let live = words.alive(r, r + 1);
     let runs = Runs {
         to: question.to,
         marks,
@@ -27,19 +36,42 @@ pub fn advance(lent: &Lent, r: u16, area: &mut [u16])
     for v in 0..marks {
         let m = Mark::tested(v, marks);
         let end = runs.end(m, first);
-        let at = rows::place(m, states, marks);
-        let mut row = rows::fetch(area, at, states);
-        let offers = Offers {
-            network: question.network,
-            states,
-            from: question.from,
-            kinds: question.kinds,
-            area,
-            live: &live,
-            steps: &lent.steps,
-        };
-        offers.lower_row(&mut row, first..end);
-        rows::write(area, at, &row, states);
+        let row = offered(&*lent, area, &live, m, first..end);
+        rows::write(area, rows::place(m, states, marks), &row, states);
         first = end;
     }
+}
+
+// The row of mark v as it stands, lowered by what its ties offer.
+fn offered<'a>(
+    lent: &'a Lent<'a>,
+    area: &'a [u16],
+    live: &'a [u32; Network::MARKS],
+    v: Mark,
+    ties: Range<usize>,
+) -> [u16; Condition::STATES]
+    requires { (lent.now.question.network.marks * lent.now.question.condition.states ≤ length area.now)
+        × AllLiving live.now area.now lent.now.question.network.marks lent.now.question.condition.states
+        × (v.0 < lent.now.question.network.marks) × (ties.start ≤ ties.end) × (ties.end ≤ length lent.now.question.from.now) }
+    ensures { RowOffered lent.now.question lent.now.steps.table lent.now.steps.sources live.now area.now v.0 ties.start ties.end result }
+{
+    let question = lent.question;
+    let marks = question.network.marks;
+    let states = question.condition.states;
+    let words = Words {
+        area,
+        marks,
+        states,
+    };
+    let offers = Offers {
+        words,
+        live,
+        from: question.from,
+        sets: question.kinds,
+        kinds: question.network.kinds,
+        steps: &lent.steps,
+    };
+    let mut row = rows::fetch(area, rows::place(v, states, marks), states);
+    offers.lower_row(&mut row, ties);
+    row
 }

@@ -5,6 +5,7 @@ ghost use Rattle.walk.specs.Ceilings.{ceilings};
 ghost use Rattle.rounds.specs.Judged.{Tells};
 
 use crate::lent::Lent;
+use rows::Words;
 use rows::offers::Offers;
 use tables::numbers::Mark;
 use tables::runs::Runs;
@@ -17,16 +18,19 @@ pub fn right(lent: &Lent, r: u16, area: &[u16]) -> bool
 {
     let question = lent.question;
     let marks = question.network.marks;
-    let states = question.condition.states;
     let s = Mark::tested(question.ask.from, marks);
-    let live = rows::alive::of_marks(area, marks, states, 0, r);
-    let offers = Offers {
-        network: question.network,
-        states,
-        from: question.from,
-        kinds: question.kinds,
+    let words = Words {
         area,
+        marks,
+        states: question.condition.states,
+    };
+    let live = words.alive(0, r);
+    let offers = Offers {
+        words,
         live: &live,
+        from: question.from,
+        sets: question.kinds,
+        kinds: question.network.kinds,
         steps: &lent.steps,
     };
     let runs = Runs {
@@ -39,8 +43,7 @@ pub fn right(lent: &Lent, r: u16, area: &[u16]) -> bool
         let end = runs.end(m, first);
         let mut row = rows::opening(m, s, question.condition);
         offers.lower_row(&mut row, first..end);
-        let at = rows::place(m, states, marks);
-        if rows::differs(&area[at..at + states], &row) {
+        if rows::differs(words.row(m), &row) {
             return false;
         }
         first = end;

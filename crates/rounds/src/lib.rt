@@ -20,6 +20,7 @@ ghost use Rattle.rounds.specs.Judged.{Every, IsRight, Turns};
 
 use crate::lent::Lent;
 use crate::status::status;
+use rows::Words;
 use tables::gathered::Gathered;
 use tables::numbers::Mark;
 use walk::{Question, Refused, Status};
@@ -36,8 +37,13 @@ pub fn start(
     let marks = question.network.marks;
     let s = Mark::tested(question.ask.from, marks);
     rows::open(area, marks, question.condition, s);
+    let words = Words {
+        area,
+        marks,
+        states: question.condition.states,
+    };
     let t = Mark::tested(question.ask.to, marks);
-    Ok((0, status(area, marks, question.condition, t, 0)))
+    Ok((0, status(&words, question.condition.accept, t, 0)))
 }
 
 // "A round takes the count of rounds done and hands back the next, moving the area from the right one for r to the right one for r + 1."
@@ -76,6 +82,14 @@ fn turn(done: usize, found: Status, lent: &Lent, area: &mut [u16]) -> (usize, St
     advance::advance(lent, r, area);
     let question = lent.question;
     let marks = question.network.marks;
+    let words = Words {
+        area,
+        marks,
+        states: question.condition.states,
+    };
     let t = Mark::tested(question.ask.to, marks);
-    (done + 1, status(area, marks, question.condition, t, r + 1))
+    (
+        done + 1,
+        status(&words, question.condition.accept, t, r + 1),
+    )
 }

@@ -5,18 +5,20 @@ ghost use Rattle.walk.specs.Ceilings.{ceilings};
 ghost use Rattle.rows.specs.Rows.{row};
 ghost use Rattle.rounds.specs.Standing.{nearest, stands, standing};
 
+use rows::Words;
 use tables::numbers::{Mark, State};
-use tables::tests;
-use walk::{Condition, Status};
+use tables::tests::pairs;
+use walk::Status;
 
 // The least word of an accepting state, or r + 1 if none is at most r.
-fn nearest(words: &[u16], condition: Condition, r: u16) -> u16
-    requires { (length words.now ≡ condition.states) × (condition.states ≤ ceilings.states) × (r < ceilings.unreached) }
-    ensures { result ≡ nearest words.now condition.accept condition.states (r + 1) }
+fn nearest(words: &[u16], accept: u32, r: u16) -> u16
+    requires { (length words.now ≤ ceilings.states) × (r < ceilings.unreached) }
+    ensures { result ≡ nearest words.now accept (length words.now) (r + 1) }
 {
+    let states = words.len();
     let mut best = r + 1;
     for (q, &w) in words.iter().enumerate() {
-        if State::tested(q, condition.states).among(condition.accept) {
+        if State::tested(q, states).among(accept) {
             best = best.min(w);
         }
     }
@@ -31,18 +33,15 @@ fn stands(area: &[u16], n: usize, r: u16) -> bool
     area[..n].contains(&r)
 }
 
-pub fn status(area: &[u16], marks: usize, condition: Condition, t: Mark, r: u16) -> Status
-    requires { (t.0 < marks) × (marks ≤ ceilings.marks) × (condition.states ≤ ceilings.states)
-        × (marks * condition.states ≤ length area.now) × (r < ceilings.unreached) }
-    ensures { result ≡ standing (nearest (row area.now condition.states t.0) condition.accept condition.states
-        (r + 1)) r (stands area.now (marks * condition.states) r) }
+pub fn status(words: &Words, accept: u32, t: Mark, r: u16) -> Status
+    requires { (t.0 < words.now.marks) × (r < ceilings.unreached) }
+    ensures { result ≡ standing (nearest (row words.now.area.now words.now.states t.0) accept words.now.states (r + 1)) r
+        (stands words.now.area.now (words.now.marks * words.now.states) r) }
 {
-    let states = condition.states;
-    let at = rows::place(t, states, marks);
-    let best = nearest(&area[at..at + states], condition, r);
+    let best = nearest(words.row(t), accept, r);
     if best <= r {
         Status::Found(usize::from(best))
-    } else if stands(area, tests::pairs(marks, states), r) {
+    } else if stands(words.area, pairs(words.marks, words.states), r) {
         Status::Going
     } else {
         Status::None

@@ -8,6 +8,7 @@ ghost use Rattle.rounds.specs.Judged.{Stood, Judges};
 use crate::area::right;
 use crate::lent::Lent;
 use crate::status::status;
+use rows::Words;
 use tables::gathered::Gathered;
 use tables::numbers::Mark;
 use tables::steps::Steps;
@@ -28,8 +29,13 @@ fn of_area(done: usize, lent: &Lent, area: &[u16]) -> Result<Status, Refused>
             place: 0,
         });
     }
+    let words = Words {
+        area,
+        marks,
+        states: question.condition.states,
+    };
     let t = Mark::tested(question.ask.to, marks);
-    Ok(status(area, marks, question.condition, t, done as u16))
+    Ok(status(&words, question.condition.accept, t, done as u16))
 }
 
 // Refusals 1 to 8. Where 1 to 7 pass, the moves are brought into the step table.

@@ -13,7 +13,7 @@ use lib.Seq.{get_or-set_same, get_or-set_other}
 use borrow.Author.Tests.{eqb-true, eqb-false, ltb-true, ltb-false}
 use Rattle.walk.specs.Numbers.{has}
 use Rattle.walk.proofs.Numbers.{and_in}
-use Rattle.tables.specs.Sets.{Lowest}
+use Rattle.tables.specs.Sets.{LowestFrom}
 use Rattle.tables.proofs.SetLaws.{has-and, has-none}
 use Rattle.rows.specs.Offers.{Lowered, One, Each, Between, Along}
 
@@ -51,7 +51,7 @@ lowered_as P R b b' L f g = record { size = L.size; keeps = L.keeps; takes = λ 
 pub each_none : (s : ℕ) (P : ℕ → ℕ → ℕ → Type 0) (b : List ℕ) → length b ≡ 32 → Lowered (Each s P 0) b b
 each_none s P b e = lowered_none (Each s P 0) b e (λ q w x. not-suc-le-zero x.1)
 
-pub each_more : (s at n : ℕ) (P : ℕ → ℕ → ℕ → Type 0) (b b' b'' : List ℕ) → Lowest s at n → Lowered (Each s P at) b b' → Lowered (P n) b' b''
+pub each_more : (s at n : ℕ) (P : ℕ → ℕ → ℕ → Type 0) (b b' b'' : List ℕ) → LowestFrom s at n → Lowered (Each s P at) b b' → Lowered (P n) b' b''
     → Lowered (Each s P (n + 1)) b b''
 each_more s at n P b b' b'' W L M = lowered_then (Each s P at) (P n) (Each s P (n + 1)) b b' b'' L M split
     (λ q w x. (x.0, omega (arith, x.1, W.from), x.2, x.3)) (λ q w x. (n, omega arith, W.stands, x))
@@ -80,7 +80,7 @@ each_end s at P b b' l e L = lowered_as (Each s P at) (Each s P 32) b b' L f (λ
 abbrev pub Passed : ℕ → ℕ → ℕ → (ℕ → ℕ → ℕ → Type 0) → List ℕ → List ℕ → Type 0
 Passed t at s P b b' = (t ≡ s) × Lowered (Each s P at) b b'
 
-pub passed_more : {t t' at at' s n : ℕ} {b b' b'' : List ℕ} (P : ℕ → ℕ → ℕ → Type 0) → (t' ≡ t) × (Lowest t at n × (at' ≡ n + 1))
+pub passed_more : {t t' at at' s n : ℕ} {b b' b'' : List ℕ} (P : ℕ → ℕ → ℕ → Type 0) → (t' ≡ t) × (LowestFrom t at n × (at' ≡ n + 1))
     → Passed t at s P b b' → Lowered (P n) b' b'' → Passed t' at' s P b b''
 passed_more {at} {s} {n} {b} {b'} {b''} P (h, (W, e)) (k, L) M = (h ∙ k, rw e (each_more s at n P b b' b'' (rw k at W) L M))
 

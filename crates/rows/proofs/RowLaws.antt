@@ -19,7 +19,7 @@ use Rattle.walk.specs.Ceilings.{ceilings}
 use Rattle.walk.specs.Numbers.{has, ◌and◌, any_below}
 use Rattle.walk.proofs.Numbers.{any_below_in, any_below_of}
 use Rattle.tables.proofs.StepLaws.{no_and, yes_and, any-more}
-use Rattle.tables.specs.Sets.{Lowest}
+use Rattle.tables.specs.Sets.{LowestFrom}
 use Rattle.rows.specs.Rows.{row, opening, Row, Put, RowsTo, differ}
 
 -- where a row stands
@@ -62,7 +62,7 @@ started_none start at e = record {
       ∙ sym (ap (λ (t : Bool). cond t 0 65535) (no_and (ltb q at) (has start q) (le-ltb q at (omega arith))));
 }
 
-pub started_more : (b : List ℕ) (start t at at' n : ℕ) → t ≡ start → Lowest t at n → at' ≡ n + 1 → Started b start at → Started (set b n 0) start at'
+pub started_more : (b : List ℕ) (start t at at' n : ℕ) → t ≡ start → LowestFrom t at n → at' ≡ n + 1 → Started b start at → Started (set b n 0) start at'
 started_more b start t at at' n k L e S = record { size = length-set b n 0 ∙ S.size; says = λ q l. go q l (eqb q n) refl }
   where
     stands : has start n ≡ true

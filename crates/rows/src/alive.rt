@@ -4,6 +4,7 @@ ghost use Rattle.std.specs.Prelude.{◌≡◌, ◌*◌, ◌≤◌, ◌<◌, leng
 ghost use Rattle.walk.specs.Ceilings.{ceilings};
 ghost use Rattle.rows.specs.Rows.{between, Joined, AliveRow, Alive};
 
+use crate::Words;
 use tables::numbers::{Mark, State};
 use tables::sets;
 use walk::Network;
@@ -21,10 +22,11 @@ fn join(set: u32, p: State, d: u16, lo: u16, hi: u16) -> u32
 }
 
 // The states of a row.
-pub fn of_row(words: &[u16], states: usize, lo: u16, hi: u16) -> u32
-    requires { (length words.now ≡ states) × (states ≤ ceilings.states) }
-    ensures { AliveRow result words.now states lo hi }
+pub fn of_row(words: &[u16], lo: u16, hi: u16) -> u32
+    requires { length words.now ≤ ceilings.states }
+    ensures { AliveRow result words.now (length words.now) lo hi }
 {
+    let states = words.len();
     let mut set = 0u32;
     for (p, &d) in words.iter().enumerate() {
         set = join(set, State::tested(p, states), d, lo, hi);
@@ -32,21 +34,15 @@ pub fn of_row(words: &[u16], states: usize, lo: u16, hi: u16) -> u32
     set
 }
 
-// The states of each mark.
-pub fn of_marks(
-    area: &[u16],
-    marks: usize,
-    states: usize,
-    lo: u16,
-    hi: u16,
-) -> [u32; Network::MARKS]
-    requires { (marks ≤ ceilings.marks) × (states ≤ ceilings.states) × (marks * states ≤ length area.now) }
-    ensures { Alive result area.now marks states lo hi }
-{
-    let mut live = [0u32; Network::MARKS];
-    for v in 0..marks {
-        let at = crate::place(Mark::tested(v, marks), states, marks);
-        live[v] = of_row(&area[at..at + states], states, lo, hi);
+impl<'a> Words<'a> {
+    // The states of each mark.
+    pub fn alive(&self, lo: u16, hi: u16) -> [u32; Network::MARKS]
+        ensures { Alive result self.now.area.now self.now.marks self.now.states lo hi }
+    {
+        let mut live = [0u32; Network::MARKS];
+        for v in 0..self.marks {
+            live[v] = of_row(self.row(Mark::tested(v, self.marks)), lo, hi);
+        }
+        live
     }
-    live
 }

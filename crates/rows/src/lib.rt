@@ -8,7 +8,7 @@ pub mod offers;
 
 ghost use Rattle.std.specs.Prelude.{◌≡◌, ◌+◌, ◌*◌, ◌≤◌, ◌<◌, length, get_or};
 ghost use Rattle.walk.specs.Ceilings.{ceilings};
-ghost use Rattle.rows.specs.Rows.{opening, Row, Put, RowsTo, differ};
+ghost use Rattle.rows.specs.Rows.{row, opening, Row, Put, RowsTo, differ};
 
 use tables::numbers::Mark;
 use tables::sets::Elements;
@@ -22,13 +22,35 @@ pub fn place(v: Mark, states: usize, marks: usize) -> usize
     v.index() * states
 }
 
+// The words of an area, to be read: a row for each mark, with a word for each state.
+#[derive(Clone, Copy)]
+pub struct Words<'a> {
+    pub area: &'a [u16],
+    pub marks: usize,
+    pub states: usize,
+    ghost few: { (marks ≤ ceilings.marks) × (states ≤ ceilings.states) },
+    ghost room: { marks * states ≤ length area.now },
+}
+
+impl<'a> Words<'a> {
+    // The row of mark v.
+    pub fn row(&self, v: Mark) -> &'a [u16]
+        requires { v.0 < self.now.marks }
+        ensures words { result.now ≡ row self.now.area.now self.now.states v.0 }
+        ensures size { length result.now ≡ self.now.states }
+    {
+        let at = place(v, self.states, self.marks);
+        &self.area[at..at + self.states]
+    }
+}
+
 // The row of mark v for 0 rounds: 0 at a start pair.
 pub fn opening(v: Mark, s: Mark, condition: Condition) -> [u16; Condition::STATES]
     requires { condition.states ≤ ceilings.states }
     ensures { Row result condition.states (opening s.0 condition.start v.0) }
 {
     let mut row = [Area::UNREACHED; Condition::STATES];
-    if v.index() == s.index() {
+    if v == s {
         for q in Elements::of(condition.start) {
             row[q] = 0;
         }

@@ -3,9 +3,9 @@
 
 ghost use Rattle.std.specs.Prelude.{◌≡◌, ◌+◌, ◌≤◌, ◌<◌, length, get_or};
 ghost use Rattle.walk.specs.Ceilings.{ceilings};
-ghost use Rattle.rows.specs.Rows.{Sized};
 ghost use Rattle.rows.specs.Offers.{Lowered, One, Each, Between, ByKind, Along, OfTie, Within, Living, AllLiving, Narrow, TiesIn};
 
+use crate::Words;
 use std::ops::Range;
 use tables::numbers::{Kind, State, Tie};
 use tables::sets::Elements;
@@ -14,7 +14,7 @@ use walk::{Condition, Network};
 
 // The word of one state, lowered to w.
 fn lower(row: &mut [u16; Condition::STATES], q: State, w: u16)
-    requires { (q.0 < ceilings.states) × (length row.old ≡ ceilings.states) }
+    requires { q.0 < ceilings.states }
     ensures { Lowered (One w q.0) row.old row.new }
 {
     let at = q.index();
@@ -23,7 +23,7 @@ fn lower(row: &mut [u16; Condition::STATES], q: State, w: u16)
 
 // The words of a set of states, lowered to w.
 fn lower_all(row: &mut [u16; Condition::STATES], set: u32, states: usize, w: u16)
-    requires { (states ≤ ceilings.states) × (length row.old ≡ ceilings.states) × Within set states }
+    requires { (states ≤ ceilings.states) × Within set states }
     ensures { Lowered (Each set (One w) ceilings.states) row.old row.new }
 {
     for n in Elements::of(set) {
@@ -33,7 +33,7 @@ fn lower_all(row: &mut [u16; Condition::STATES], set: u32, states: usize, w: u16
 
 // The offers under kind k from the states of a set.
 fn by_kind(row: &mut [u16; Condition::STATES], words: &[u16], steps: &Steps, k: Kind, set: u32)
-    requires { (k.0 < ceilings.kinds) × (length words.now ≤ ceilings.states) × (length row.old ≡ ceilings.states)
+    requires { (k.0 < ceilings.kinds) × (length words.now ≤ ceilings.states)
         × Living words.now set (length words.now) × Narrow steps.now.table (length words.now) }
     ensures { Lowered (ByKind steps.now.table words.now set k.0) row.old row.new }
 {
@@ -57,7 +57,7 @@ fn along(
     set: u32,
     kinds: usize,
 )
-    requires { (kinds ≤ ceilings.kinds) × (length words.now ≤ ceilings.states) × (length row.old ≡ ceilings.states)
+    requires { (kinds ≤ ceilings.kinds) × (length words.now ≤ ceilings.states)
         × Living words.now live (length words.now) × Narrow steps.now.table (length words.now) × Within set kinds }
     ensures { Lowered (Along steps.now.table steps.now.sources words.now live set) row.old row.new }
 {
@@ -71,47 +71,38 @@ fn along(
 // kinds it is, and the step table.
 #[derive(Clone, Copy)]
 pub struct Offers<'a> {
-    pub network: Network,
-    pub states: usize,
-    pub from: &'a [u16],
-    pub kinds: &'a [u32],
-    pub area: &'a [u16],
+    pub words: Words<'a>,
     pub live: &'a [u32; Network::MARKS],
+    pub from: &'a [u16],
+    pub sets: &'a [u32],
+    pub kinds: usize,
     pub steps: &'a Steps,
-    ghost size: { Sized network.marks network.kinds states area.now },
-    ghost ties: { TiesIn network.marks network.kinds (length from.now) from.now kinds.now },
-    ghost living: { AllLiving live.now area.now network.marks states },
-    ghost narrow: { Narrow steps.now.table states },
+    ghost few: { kinds ≤ ceilings.kinds },
+    ghost ties: { TiesIn words.marks kinds (length from.now) from.now sets.now },
+    ghost living: { AllLiving live.now words.area.now words.marks words.states },
+    ghost narrow: { Narrow steps.now.table words.states },
 }
 
 impl<'a> Offers<'a> {
     // The offers along tie e, if a state of the mark that it leaves is alive.
     fn of_tie(&self, row: &mut [u16; Condition::STATES], e: Tie)
-        requires { (e.0 < length self.now.from.now) × (length row.old ≡ ceilings.states) }
-        ensures { Lowered (OfTie self.now.steps.now.table self.now.steps.now.sources self.now.live.now self.now.area.now self.now.states
-            self.now.from.now self.now.kinds.now e.0) row.old row.new }
+        requires { e.0 < length self.now.from.now }
+        ensures { Lowered (OfTie self.now.steps.now.table self.now.steps.now.sources self.now.live.now self.now.words.area.now
+            self.now.words.states self.now.from.now self.now.sets.now e.0) row.old row.new }
     {
-        let u = e.leaves(self.from, self.network.marks);
+        let u = e.leaves(self.from, self.words.marks);
         let live = self.live[u.index()];
         if live != 0 {
-            let at = crate::place(u, self.states, self.network.marks);
-            let words = &self.area[at..at + self.states];
-            along(
-                row,
-                words,
-                self.steps,
-                live,
-                e.kinds(self.kinds),
-                self.network.kinds,
-            );
+            let words = self.words.row(u);
+            along(row, words, self.steps, live, e.kinds(self.sets), self.kinds);
         }
     }
 
-    // The offers along a part of the ties.
+    // The row is lowered by the offers along a part of the ties.
     pub fn lower_row(&self, row: &mut [u16; Condition::STATES], ties: Range<usize>)
-        requires { (ties.start ≤ ties.end) × (ties.end ≤ length self.now.from.now) × (length row.old ≡ ceilings.states) }
-        ensures { Lowered (Between ties.start (OfTie self.now.steps.now.table self.now.steps.now.sources self.now.live.now self.now.area.now
-            self.now.states self.now.from.now self.now.kinds.now) ties.end) row.old row.new }
+        requires { (ties.start ≤ ties.end) × (ties.end ≤ length self.now.from.now) }
+        ensures { Lowered (Between ties.start (OfTie self.now.steps.now.table self.now.steps.now.sources self.now.live.now self.now.words.area.now
+            self.now.words.states self.now.from.now self.now.sets.now) ties.end) row.old row.new }
     {
         for e in ties {
             self.of_tie(row, Tie::tested(e, self.from.len()));

@@ -1,10 +1,10 @@
 -- What a checked entry answers. It is written as a choice by a test; a number below the bound passes the test, so its entry is the first choice,
 -- and the number that it gave is below the bound too.
 use Prim.Native.Nat.{ℕ, ◌≤◌, ◌<◌}
-use mathlib.Core.Bool.{Bool, true, false, cond}
-use mathlib.Core.Path.{◌≡◌, refl, sym}
-use lib.Dec.{ltb}
-use borrow.Author.Tests.{ltb-true, ltb-false, lt-ltb}
+use mathlib.Core.Bool.{Bool, true, false, not, ◌&&◌, false≢true, cond}
+use mathlib.Core.Path.{◌≡◌, refl, sym, ◌∙◌}
+use lib.Dec.{ltb, eqb}
+use borrow.Author.Tests.{eqb-true, eqb-false, ltb-true, ltb-false, lt-ltb}
 use Rattle.walk.proofs.Numbers.{clash}
 use Rattle.std.specs.Prelude.{Option, Some, None}
 use Rattle.tables.specs.declared.numbers.Number.{Number}
@@ -30,3 +30,19 @@ entry_out {S = S} n bound h = go (ltb n bound) refl h
     go : (b : Bool) → ltb n bound ≡ b → ◌≡◌ {A = Option (Number S)} (cond b (Some (record { 0 = n; 1 = record {} })) None) None → bound ≤ n
     go true b h = clash cc
     go false b h = ltb-false n bound b
+
+-- what `==` answers of two numbers of a sort: whether they are the same
+pub same_number : (m n : ℕ) (r : Bool) → r ≡ (eqb m n && true) → (r ≡ true → m ≡ n) × (r ≡ false → m ≡ n → ⊥)
+same_number m n r e = go (eqb m n) refl e
+  where
+    go : (t : Bool) → eqb m n ≡ t → r ≡ (t && true) → (r ≡ true → m ≡ n) × (r ≡ false → m ≡ n → ⊥)
+    go true f e = (λ _. eqb-true m n f, λ g _. false≢true (sym g ∙ e))
+    go false f e = (λ g. absurd (false≢true (sym e ∙ g)), λ _ h. eqb-false m n f h)
+
+-- and `!=`: whether they are not
+pub other_number : (m n : ℕ) (r : Bool) → r ≡ not (eqb m n && true) → (r ≡ true → m ≡ n → ⊥) × (r ≡ false → m ≡ n)
+other_number m n r e = go (eqb m n) refl e
+  where
+    go : (t : Bool) → eqb m n ≡ t → r ≡ not (t && true) → (r ≡ true → m ≡ n → ⊥) × (r ≡ false → m ≡ n)
+    go true f e = (λ g _. false≢true (sym e ∙ g), λ _. eqb-true m n f)
+    go false f e = (λ _ h. eqb-false m n f h, λ g. absurd (false≢true (sym g ∙ e)))

@@ -18,7 +18,7 @@ use borrow.Author.Tests.{eqb-true}
 use Rattle.walk.specs.Numbers.{has, ◌and◌}
 use Rattle.walk.proofs.Numbers.{Yes, or_in, eqb_of, yes_same}
 use Rattle.walk.proofs.Sets.{or-has, pow-has, pow_in, zero_has, has-below}
-use Rattle.tables.specs.Sets.{Lowest}
+use Rattle.tables.specs.Sets.{LowestFrom}
 
 -- a union
 pub has-or : (a b j : ℕ) → has (bit_or a b) j ≡ (has a j || has b j)
@@ -94,7 +94,7 @@ low (suc k) n h l = go (λ p. low k (n / 2) p (shr_lt k 1 (subst (λ (x : ℕ). 
         record { below = omega arith; stands = has-zero n ∙ ap (λ (m : ℕ). eqb m 1) one; first = λ i h. absurd (not-suc-le-zero h) }
 
 -- over a set from `at` on, as the code looks at it: the lowest element, or none
-pub lowest_from : (set at : ℕ) → set < 2 ^ 32 → ¬ (set / 2 ^ at ≡ 0) → Lowest set at (at + count_trailing_zeros 64 (set / 2 ^ at))
+pub lowest_from : (set at : ℕ) → set < 2 ^ 32 → ¬ (set / 2 ^ at ≡ 0) → LowestFrom set at (at + count_trailing_zeros 64 (set / 2 ^ at))
 lowest_from set at small ne = record { from = omega arith; below = has-below 32 set (at + z) small st; stands = st; between = bt }
   where
     rest : ℕ

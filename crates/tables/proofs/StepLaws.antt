@@ -21,7 +21,7 @@ use Rattle.walk.specs.Condition.{Condition, no_move, move_at, follows}
 use Rattle.walk.proofs.Numbers.{Yes, and_in, and_of, or_in, eqb_of, any_below_in, any_below_of, length-table, getD-table, yes_same}
 use Rattle.tables.specs.Lent.{move_of, moves_of}
 use Rattle.tables.specs.Steps.{Clear, InRange, Filled, steps}
-use Rattle.tables.specs.Sets.{Lowest}
+use Rattle.tables.specs.Sets.{LowestFrom}
 use Rattle.tables.proofs.SetLaws.{has-or, has-none, one_is}
 
 -- tests
@@ -56,7 +56,7 @@ yes_and a b e = rw e
 abbrev pub by : List ℕ → ℕ → ℕ → ℕ → ℕ → Bool
 by T kinds p q k = has kinds k and has (get_or T (k * 32 + p) 0) q
 
-pub next_more : (T : List ℕ) (kinds p set k n : ℕ) → Lowest kinds k n → ((q : ℕ) → has set q ≡ any_below k (by T kinds p q))
+pub next_more : (T : List ℕ) (kinds p set k n : ℕ) → LowestFrom kinds k n → ((q : ℕ) → has set q ≡ any_below k (by T kinds p q))
     → (q : ℕ) → has (bit_or set (get_or T (n * 32 + p) 0)) q ≡ any_below (n + 1) (by T kinds p q)
 next_more T kinds p set k n L h q =
     has-or set _ q

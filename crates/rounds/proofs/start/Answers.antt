@@ -26,10 +26,10 @@ open-requires c =
 pub tested-t-requires : goal.tested-t-requires
 tested-t-requires c = (accepted _ _ (sym c.in_ok-tested.ensures)).0.ends.1
 
-pub status-requires : goal.status-requires
-status-requires c =
+pub invariant_of-words : goal.invariant_of-words
+invariant_of-words c =
     let (a, room) = accepted _ _ (sym c.in_ok-tested.ensures) in
-    (c.tested-t.ensures.below, a.sizes.marks.1, a.condition.states.1, omega (arith, room), omega arith)
+    record { few = (a.sizes.marks.1, a.condition.states.1); room = omega (arith, room) }
 
 pub returns : goal.returns
 returns c =

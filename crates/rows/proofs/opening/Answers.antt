@@ -1,5 +1,6 @@
 -- `rows::opening` meets its contract: the row of another mark than s is blank, and the row of s holds its start states.
-use Rattle.std.proofs.Common.{arith, ◌≡◌, ◌∙◌}
+use Rattle.std.proofs.Common.{◌∙◌}
+use Rattle.tables.proofs.Entries.{same_number}
 use Rattle.rows.proofs.RowLaws.{row-blank, row-started, started_none, started_more, started_all}
 use Rattle.rows.proofs.opening.Goals as goal
 
@@ -17,10 +18,8 @@ loop-q-preserved c =
 pub returns-in-None : goal.returns-in-None
 returns-in-None c =
     let I = c.loop-q.invariant in
-    let at-s : c.args.v.0 ≡ c.args.s.0 = omega arith in
+    let at-s = (same_number c.args.v.0 c.args.s.0 _ c.eq.ensures).0 c.if-eq.true in
     row-started _ _ c.args.s.0 _ c.args.v.0 at-s (started_all _ _ _ _ _ c.requires I.0 c.in-None.ensures.steps.1 I.1)
 
-pub returns-else-index : goal.returns-else-index
-returns-else-index c =
-    let t = c.if-index.false in
-    row-blank _ c.args.s.0 _ c.args.v.0 c.requires (λ e. (let d : c.args.v.0 ≡ c.args.s.0 = e in omega arith))
+pub returns-else-eq : goal.returns-else-eq
+returns-else-eq c = row-blank _ c.args.s.0 _ c.args.v.0 c.requires ((same_number c.args.v.0 c.args.s.0 _ c.eq.ensures).1 c.if-eq.false)

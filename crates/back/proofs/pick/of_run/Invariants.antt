@@ -4,4 +4,4 @@ use Rattle.back.proofs.PickLaws.{Passed}
 use Rattle.back.proofs.pick.of_run.Given as goal
 
 abbrev pub invariant-loop-j : goal.invariant-loop-j
-invariant-loop-j l = Passed (over_tie l.words.steps.now.table l.words.area.now l.words.states l.from l.kinds) l.low l.i l.alive l.j
+invariant-loop-j l = Passed (over_tie l.step.steps.now.table l.step.words.area.now l.step.words.states l.from l.kinds) l.low l.i l.alive l.j

@@ -1,24 +1,20 @@
 -- `rounds::advance::advance` meets its contract: a turn lowers the row of mark v by what the ties into it offer, and writes it back.
-use Rattle.std.proofs.Common.{ap, arith, get_or, length, subst, suc, sym, ℕ, ◌*◌, ◌+◌, ◌∙◌, ◌≡◌}
+use Rattle.std.proofs.Common.{ap, arith, length, subst, suc, sym, ℕ, ◌*◌, ◌∙◌, ◌≡◌}
 use native.Mathlib.Numerals.{add-one}
 use Rattle.tables.specs.Runs.{Cut}
-use Rattle.rows.specs.Rows.{Row, Put}
+use Rattle.rows.specs.Rows.{Put}
 use Rattle.rounds.proofs.Advancing.{sofar_living, sofar_more, sofar_all}
 use Rattle.rounds.proofs.Lending.{sized}
 use Rattle.rounds.proofs.advance.advance.Goals as goal
 
-pub invariant_of-offers : goal.invariant_of-offers
-invariant_of-offers c =
+pub offered-row-requires : goal.offered-row-requires
+offered-row-requires c =
     let L = c.args.lent.now in
-    let Z = L.question in
     let F = c.loop-v.invariant.1 in
-    record {
-      size = sized Z.network.marks Z.network.kinds Z.condition.states c.loop-v.area L.few (omega (arith, F.size, c.requires.0));
-      ties = L.columns;
-      living = sofar_living Z L.steps.table c.args.area.now c.args.r c.of_marks-live.result c.loop-v.area c.loop-v.v
-          (let h = c.requires.1 in omega arith) c.of_marks-live.ensures F;
-      narrow = L.leads.narrow;
-    }
+    let living =
+    sofar_living L.question L.steps.table c.args.area.now c.args.r c.alive-live.result c.loop-v.area c.loop-v.v
+    (let h = c.requires.1 in omega arith) c.alive-live.ensures F in
+    (omega (arith, F.size, c.requires.0), living, c.tested-m.ensures.below, c.end-end.ensures.1, omega (arith, c.end-end.ensures.0.within, L.same))
 
 pub loop-v-preserved : goal.loop-v-preserved
 loop-v-preserved c =
@@ -29,18 +25,18 @@ loop-v-preserved c =
     let n = length Z.to.now in
     let cut : Cut Z.to.now n (suc v) c.end-end.result =
     subst (λ (k : ℕ). Cut Z.to.now n (suc k) c.end-end.result) c.tested-m.ensures.is c.end-end.ensures.0 in
-    let placed : c.place-at.result ≡ v * Q = c.place-at.ensures.0 ∙ ap (λ (k : ℕ). k * Q) c.tested-m.ensures.is in
-    let row : Row c.fetch-row.result Q (λ q. get_or c.loop-v.area (v * Q + q) 0) =
-    subst (λ (k : ℕ). Row c.fetch-row.result Q (λ q. get_or c.loop-v.area (k + q) 0)) placed c.fetch-row.ensures in
-    let put : Put c.loop-v.area c.write.new.area c.lower_row.new.row (v * Q) Q =
-    subst (λ (k : ℕ). Put c.loop-v.area c.write.new.area c.lower_row.new.row k Q) placed c.write.ensures in (
+    let placed : c.place.result ≡ v * Q = c.place.ensures.0 ∙ ap (λ (k : ℕ). k * Q) c.tested-m.ensures.is in
+    let put : Put c.loop-v.area c.write.new.area c.offered-row.result (v * Q) Q =
+    subst (λ (k : ℕ). Put c.loop-v.area c.write.new.area c.offered-row.result k Q) placed c.write.ensures in
+    let (o, row, low) = rw c.tested-m.ensures.is at c.offered-row.ensures in (
       rw add-one cut,
       sofar_more Z L.steps.table c.args.area.now c.args.r
           (sized Z.network.marks Z.network.kinds Q c.args.area.now L.few c.requires.0)
           (let few = c.requires.1 in omega arith) c.requires.2
-          L.steps.sources c.of_marks-live.result n v c.loop-v.first c.end-end.result c.loop-v.area
-          c.write.new.area c.fetch-row.result c.lower_row.new.row
-          L.leads c.of_marks-live.ensures (sym L.same) (rw c.tested-m.ensures.is at c.tested-m.ensures.below) c.loop-v.invariant.0 cut row c.lower_row.ensures put c.loop-v.invariant.1,
+          L.steps.sources c.alive-live.result n v c.loop-v.first c.end-end.result c.loop-v.area
+          c.write.new.area o c.offered-row.result
+          L.leads c.alive-live.ensures (sym L.same) (rw c.tested-m.ensures.is at c.tested-m.ensures.below) c.loop-v.invariant.0 cut row low put
+          c.loop-v.invariant.1,
     )
 
 pub returns : goal.returns

@@ -1,10 +1,9 @@
 -- `rounds::area::right` meets its contract: the row of mark v that the loop makes is compared with that of the area, and tells whether mark v passes.
-use Rattle.std.proofs.Common.{ap, arith, drop, false, length, refl, subst, suc, sym, take, true, ℕ, ◌*◌, ◌+◌, ◌-◌, ◌∙◌, ◌≡◌}
+use Rattle.std.proofs.Common.{ap, arith, false, length, subst, suc, sym, true, ℕ, ◌+◌, ◌∙◌, ◌≡◌}
 use native.Mathlib.Numerals.{add-one}
 use Rattle.tables.specs.Runs.{Cut}
 use Rattle.rows.specs.Rows.{row, opening, Row}
 use Rattle.rounds.specs.Judged.{Tells}
-use Rattle.rows.proofs.RowLaws.{row_is}
 use Rattle.rows.proofs.AliveLaws.{alive_living}
 use Rattle.rounds.proofs.Judging.{Passed, passed-all, compared}
 use Rattle.rounds.proofs.Lending.{sized}
@@ -16,9 +15,9 @@ invariant_of-offers c =
     let L = c.args.lent.now in
     let Z = L.question in
     record {
-      size = sized Z.network.marks Z.network.kinds Z.condition.states c.args.area.now L.few c.requires.0;
+      few = L.few.1;
       ties = L.columns;
-      living = alive_living c.of_marks-live.result c.args.area.now Z.network.marks Z.condition.states 0 _ (let h = c.requires.2 in omega arith) c.of_marks-live.ensures;
+      living = alive_living c.alive-live.result c.args.area.now Z.network.marks Z.condition.states 0 _ (let h = c.requires.2 in omega arith) c.alive-live.ensures;
       narrow = L.leads.narrow;
     }
 
@@ -43,9 +42,8 @@ judged c =
     let opened : Row c.opening-row.result C.states (opening Z.ask.from C.start v) =
     subst (λ (k : ℕ). Row c.opening-row.result C.states (opening k C.start v)) c.tested-s.ensures.is
     (subst (λ (k : ℕ). Row c.opening-row.result C.states (opening c.tested-s.result.0 C.start k)) c.tested-m.ensures.is c.opening-row.ensures) in
-    let placed : c.place-at.result ≡ v * C.states = c.place-at.ensures.0 ∙ ap (λ (k : ℕ). k * C.states) c.tested-m.ensures.is in
-    let part : take (c.place-at.result + C.states - c.place-at.result) (drop c.place-at.result A) ≡ row A C.states v = row_is _ _ _ _ _ placed refl in
-    compared Z L.steps.table A c.args.r size c.requires.2 L.steps.sources c.of_marks-live.result (length Z.to.now) L.leads c.of_marks-live.ensures
+    let part : c.row.result.now ≡ row A C.states v = c.row.ensures.words ∙ ap (λ (k : ℕ). row A C.states k) c.tested-m.ensures.is in
+    compared Z L.steps.table A c.args.r size c.requires.2 L.steps.sources c.alive-live.result (length Z.to.now) L.leads c.alive-live.ensures
     (sym L.same) v c.loop-v.first c.end-end.result c.opening-row.result c.lower_row.new.row _ c.loop-v-test.true c.loop-v.invariant.0
     (cut_after c) opened c.lower_row.ensures part c.differs.result c.differs.ensures
 

@@ -4,4 +4,4 @@ use Rattle.rounds.proofs.Standing.{Near}
 use Rattle.rounds.proofs.status.nearest.Given as goal
 
 abbrev pub invariant-loop-q : goal.invariant-loop-q
-invariant-loop-q l = Near l.words l.condition.accept l.q (l.r + 1) l.best
+invariant-loop-q l = Near l.words l.accept l.q (l.r + 1) l.best

@@ -9,7 +9,7 @@ use Rattle.rows.proofs.offers.along.Goals as goal
 pub by_kind-requires : goal.by_kind-requires
 by_kind-requires c =
     let p = c.requires in
-    (omega (arith, c.tested-k.ensures.below), p.1, c.loop-n.invariant.1.size, living_and c.args.words.now _ _ _ p.3, p.4)
+    (omega (arith, c.tested-k.ensures.below), p.1, living_and c.args.words.now _ _ _ p.2, p.3)
 
 pub loop-n-preserved : goal.loop-n-preserved
 loop-n-preserved c =

@@ -6,5 +6,5 @@ use Rattle.back.proofs.ground.Ground.look.Given as goal
 
 abbrev pub invariant-loop-i : goal.invariant-loop-i
 invariant-loop-i l =
-    (l.i ≤ length l.chain) × (l.at.mark.0 < l.self.words.network.marks)
+    (l.i ≤ length l.chain) × (l.at.mark.0 < l.self.step.words.marks)
     × Looked (net l.self) (back l.self) l.fn.end.mark.0 l.fn.end.alive l.chain l.i l.at.mark.0 l.at.alive l.best

@@ -18,7 +18,7 @@ found c r e =
     let R = c.run-run.ensures in
     let a = c.run-run.result.start in
     let b = c.run-run.result.end in
-    let over = over_tie g.words.steps.now.table g.words.area.now g.words.states in
+    let over = over_tie g.step.steps.now.table g.step.words.area.now g.step.words.states in
     picked-by (net g) (back g) A.low A.at.mark.0 A.i A.at.alive a b (rw g.same at R) (over (part g.from.now a b) (part g.kinds.now a b))
     (λ j h. rw (part_at g.from.now a b j h, part_at g.kinds.now a b j h)) r
     (sym e ∙ rw (part_length g.from.now a b (omega (arith, R.ends.within, g.same)), c.saturating_sub-low.ensures) at c.of_run.ensures)

@@ -10,7 +10,7 @@ invariant-loop-e l =
     × (l.e-iterator.end ≡ l.fn.ties.end)
     × Lowered
     (Between l.fn.ties.start
-    (OfTie l.self.steps.now.table l.self.steps.now.sources l.self.live.now l.self.area.now l.self.states l.self.from.now l.self.kinds.now)
+    (OfTie l.self.steps.now.table l.self.steps.now.sources l.self.live.now l.self.words.area.now l.self.words.states l.self.from.now l.self.sets.now)
     l.e-iterator.start)
     l.initial.row
     l.row
