@@ -11,21 +11,6 @@ use tables::numbers::{Mark, State};
 use tables::sets::{Elements, with};
 use tables::steps::Steps;
 
-// The states of a set from which a tie with these kinds leads to a state alive.
-fn leading(steps: &Steps, carried: u32, kinds: usize, set: u32, states: usize, alive: u32) -> u32
-    requires { (kinds ≤ ceilings.kinds) × (states ≤ ceilings.states) × Within carried kinds × Within set states }
-    ensures { Leading steps.now.table carried set alive result }
-{
-    let mut found = 0u32;
-    for n in Elements::of(set) {
-        let p = State::tested(n, states);
-        if steps.nexts(carried, kinds, p) & alive != 0 {
-            found = with(found, p.index());
-        }
-    }
-    found
-}
-
 // What a step back looks at: the words of an area, and the step table.
 #[derive(Clone, Copy)]
 pub struct Step<'a> {
@@ -42,14 +27,22 @@ impl<'a> Step<'a> {
         ensures { result ≡ over self.now.steps.now.table self.now.words.area.now self.now.words.states u.0 carried i alive }
     {
         let set = of_row(self.words.row(u), i, i + 1);
-        leading(
-            self.steps,
-            carried,
-            self.kinds,
-            set,
-            self.words.states,
-            alive,
-        )
+        self.leading(carried, set, alive)
+    }
+
+    // The states of a set from which a tie with these kinds leads to a state alive.
+    fn leading(&self, carried: u32, set: u32, alive: u32) -> u32
+        requires { Within carried self.now.kinds × Within set self.now.words.states }
+        ensures { Leading self.now.steps.now.table carried set alive result }
+    {
+        let mut found = 0u32;
+        for n in Elements::of(set) {
+            let p = State::tested(n, self.words.states);
+            if self.steps.nexts(carried, self.kinds, p) & alive != 0 {
+                found = with(found, p.index());
+            }
+        }
+        found
     }
 }
 

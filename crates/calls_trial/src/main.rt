@@ -44,7 +44,12 @@ fn word(asked: &[u8; 384], i: usize) -> u16
 fn long(asked: &[u8; 384], i: usize) -> u32
     requires { i < 191 }
 {
-    u32::from(word(asked, i)) + 65536 * u32::from(word(asked, i + 1))
+    u32::from_le_bytes([
+        asked[2 * i],
+        asked[2 * i + 1],
+        asked[2 * i + 2],
+        asked[2 * i + 3],
+    ])
 }
 
 // A number that is no more than a buffer's length.

@@ -1,4 +1,4 @@
--- What the work of first and next asks for; and what next answers and leaves, by what is seen of the chain that stands in the buffer: over any step
+-- What first and next find chains over; and what next answers and leaves, by what is seen of the chain that stands in the buffer: over any step
 -- back.
 use Rattle.std.specs.Prelude.{ℕ, suc, ◌<◌, List, ◌∷◌, ◌≡◌, take, drop, Option, Some, None, Result, Ok, Err}
 use Rattle.walk.specs.declared.Refused.{Refused}

@@ -75,11 +75,7 @@ fn at_end(question: &Question, area: &[u16], n: usize) -> At
     ensures { Entered result.mark.0 question.now.ask.to question.now.network.marks
         × (result.alive ≡ ends_at area.now question.now.condition.states question.now.ask.to question.now.condition.accept n) }
 {
-    let words = Words {
-        area,
-        marks: question.network.marks,
-        states: question.condition.states,
-    };
+    let words = Words::of(area, question.network, question.condition);
     let mark = Mark::tested(question.ask.to, words.marks);
     At {
         mark,
@@ -94,11 +90,7 @@ fn ground<'a>(lent: &'a Lent<'a>, area: &'a [u16]) -> Ground<'a>
     ensures { Over lent.now area.now result }
 {
     let question = lent.question;
-    let words = Words {
-        area,
-        marks: question.network.marks,
-        states: question.condition.states,
-    };
+    let words = Words::of(area, question.network, question.condition);
     let step = Step {
         words,
         kinds: question.network.kinds,

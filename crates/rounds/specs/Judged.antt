@@ -1,4 +1,4 @@
--- What the tests of a call leave of it. Then what the test of the area, refusal 8 and a round answer, for every list of moves that a step table stands
+-- What the tests of a round answer. Then what the test of the area, refusal 8 and a round answer, for every list of moves that a step table stands
 -- for: they are lent the table and no moves.
 use Rattle.std.specs.Prelude.{ℕ, suc, ◌+◌, ◌*◌, get_or, Bool, true, cond, List, [], ◌∷◌, ◌++◌, ◌↔◌, ◌≡◌, take, drop, Result, Ok, Err}
 use Rattle.walk.specs.declared.Question as lent

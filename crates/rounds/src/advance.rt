@@ -22,11 +22,7 @@ pub fn advance(lent: &Lent, r: u16, area: &mut [u16])
     let question = lent.question;
     let marks = question.network.marks;
     let states = question.condition.states;
-    let words = Words {
-        area,
-        marks,
-        states,
-    };
+    let words = Words::of(area, question.network, question.condition);
     let live = words.alive(r, r + 1);
     let runs = Runs {
         to: question.to,
@@ -58,11 +54,7 @@ fn offered<'a>(
     let question = lent.question;
     let marks = question.network.marks;
     let states = question.condition.states;
-    let words = Words {
-        area,
-        marks,
-        states,
-    };
+    let words = Words::of(area, question.network, question.condition);
     let offers = Offers {
         words,
         live,

@@ -19,11 +19,7 @@ pub fn right(lent: &Lent, r: u16, area: &[u16]) -> bool
     let question = lent.question;
     let marks = question.network.marks;
     let s = Mark::tested(question.ask.from, marks);
-    let words = Words {
-        area,
-        marks,
-        states: question.condition.states,
-    };
+    let words = Words::of(area, question.network, question.condition);
     let live = words.alive(0, r);
     let offers = Offers {
         words,

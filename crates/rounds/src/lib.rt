@@ -37,11 +37,7 @@ pub fn start(
     let marks = question.network.marks;
     let s = Mark::tested(question.ask.from, marks);
     rows::open(area, marks, question.condition, s);
-    let words = Words {
-        area,
-        marks,
-        states: question.condition.states,
-    };
+    let words = Words::of(area, question.network, question.condition);
     let t = Mark::tested(question.ask.to, marks);
     Ok((0, status(&words, question.condition.accept, t, 0)))
 }
@@ -82,11 +78,7 @@ fn turn(done: usize, found: Status, lent: &Lent, area: &mut [u16]) -> (usize, St
     advance::advance(lent, r, area);
     let question = lent.question;
     let marks = question.network.marks;
-    let words = Words {
-        area,
-        marks,
-        states: question.condition.states,
-    };
+    let words = Words::of(area, question.network, question.condition);
     let t = Mark::tested(question.ask.to, marks);
     (
         done + 1,

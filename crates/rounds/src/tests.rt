@@ -29,11 +29,7 @@ fn of_area(done: usize, lent: &Lent, area: &[u16]) -> Result<Status, Refused>
             place: 0,
         });
     }
-    let words = Words {
-        area,
-        marks,
-        states: question.condition.states,
-    };
+    let words = Words::of(area, question.network, question.condition);
     let t = Mark::tested(question.ask.to, marks);
     Ok(status(&words, question.condition.accept, t, done as u16))
 }

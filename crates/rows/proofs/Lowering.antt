@@ -65,17 +65,6 @@ each_more s at n P b b' b'' W L M = lowered_then (Each s P at) (P n) (Each s P (
         go false e false f = let no : ¬ (i ≡ n) = eqb-false i n f in let ge = ltb-false i at e in absurd
             (false≢true (sym (W.between i ge (let m : i < n = omega arith in m)) ∙ t))
 
-pub each_end : (s at : ℕ) (P : ℕ → ℕ → ℕ → Type 0) (b b' : List ℕ) → at ≤ 32 → ((i : ℕ) → at ≤ i → has s i ≡ false) → Lowered (Each s P at) b b'
-    → Lowered (Each s P 32) b b'
-each_end s at P b b' l e L = lowered_as (Each s P at) (Each s P 32) b b' L f (λ q w x. (x.0, omega (arith, x.1), x.2, x.3))
-  where
-    f : (q w : ℕ) → Each s P 32 q w → Each s P at q w
-    f q w (i, m, t, x) = go (ltb i at) refl
-      where
-        go : (c : Bool) → ltb i at ≡ c → Each s P at q w
-        go true h = (i, ltb-true i at h, t, x)
-        go false h = absurd (false≢true (sym (e i (ltb-false i at h)) ∙ t))
-
 -- what such a loop keeps: t is the set of the walk, whose elements from `at` on are still to come
 abbrev pub Passed : ℕ → ℕ → ℕ → (ℕ → ℕ → ℕ → Type 0) → List ℕ → List ℕ → Type 0
 Passed t at s P b b' = (t ≡ s) × Lowered (Each s P at) b b'
@@ -138,8 +127,3 @@ along-none T S W b live kinds e size = lowered_none (Along T S W live kinds) b s
     never q w (k, _, _, (p, _, t, _)) =
         let (l, _) = and_in _ _ (sym (has-and live (get_or S k 0) p) ∙ t) in
         false≢true (sym (ap (λ (n : ℕ). has n p) e ∙ has-none p) ∙ l)
-
--- along a tie, said of equal words, states and kinds
-pub along_as : {W W' : List ℕ} {live live' kinds kinds' : ℕ} {b b' : List ℕ} (T S : List ℕ) → W ≡ W' → live ≡ live' → kinds ≡ kinds'
-    → Lowered (Along T S W live kinds) b b' → Lowered (Along T S W' live' kinds') b b'
-along_as T S e f g L = rw (e, f, g) at L

@@ -18,7 +18,7 @@ use Rattle.std.proofs.lemmas.Slice.Eq.{bytes_eq-Decides}
 use Rattle.walk.specs.Ceilings.{ceilings}
 use Rattle.walk.specs.Numbers.{has, ◌and◌, any_below}
 use Rattle.walk.proofs.Numbers.{any_below_in, any_below_of}
-use Rattle.tables.proofs.StepLaws.{no_and, yes_and, any-more}
+use Rattle.tables.proofs.StepLaws.{no_and, yes_and}
 use Rattle.tables.specs.Sets.{LowestFrom}
 use Rattle.rows.specs.Rows.{row, opening, Row, Put, RowsTo, differ}
 
@@ -145,10 +145,6 @@ whole A A' X n size e rest = sym (take-append-drop n A') ∙ ap (λ (l : List �
     same : drop n A' ≡ drop n A
     same = ext_get_or 0 (drop n A') (drop n A) (length-drop n A' ∙ ap (λ (k : ℕ). k - n) size ∙ sym (length-drop n A))
         (λ i h. get_or-drop n A' i 0 ∙ rest (n + i) (omega arith) ∙ sym (get_or-drop n A i 0))
-
--- a search that has passed every number below n without a hit
-pub any_none : (n : ℕ) (p : ℕ → Bool) → any_below n p ≡ false → p n ≡ false → any_below (n + 1) p ≡ false
-any_none n p h e = any-more n p ∙ rw (e, h)
 
 -- a part is not as many first words of the row, if some word of it is not that of the row
 pub differ_is : (W b : List ℕ) → length W ≤ length b → not (bytes_eq W (take (length W) b)) ≡ differ W b (length W)

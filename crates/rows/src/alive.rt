@@ -1,6 +1,6 @@
 // The states of each mark whose word lies in a range: below r for the test of the area, exactly r for a round.
 
-ghost use Rattle.std.specs.Prelude.{◌≡◌, ◌*◌, ◌≤◌, ◌<◌, length};
+ghost use Rattle.std.specs.Prelude.{◌≤◌, ◌<◌, length};
 ghost use Rattle.walk.specs.Ceilings.{ceilings};
 ghost use Rattle.rows.specs.Rows.{between, Joined, AliveRow, Alive};
 

@@ -12,7 +12,7 @@ ghost use Rattle.rows.specs.Rows.{row, opening, Row, Put, RowsTo, differ};
 
 use tables::numbers::Mark;
 use tables::sets::Elements;
-use walk::{Area, Condition};
+use walk::{Area, Condition, Network};
 
 // Where the row of mark v begins.
 pub fn place(v: Mark, states: usize, marks: usize) -> usize
@@ -33,6 +33,19 @@ pub struct Words<'a> {
 }
 
 impl<'a> Words<'a> {
+    // The words of an area that is long enough for a question.
+    pub fn of(area: &'a [u16], network: Network, condition: Condition) -> Words<'a>
+        requires { (network.marks ≤ ceilings.marks) × (condition.states ≤ ceilings.states) × (network.marks * condition.states ≤ length area.now) }
+        ensures { (few : _) × (room : _)
+            × (result ≡ record { area = area.entry; marks = network.marks; states = condition.states; few = few; room = room }) }
+    {
+        Words {
+            area,
+            marks: network.marks,
+            states: condition.states,
+        }
+    }
+
     // The row of mark v.
     pub fn row(&self, v: Mark) -> &'a [u16]
         requires { v.0 < self.now.marks }

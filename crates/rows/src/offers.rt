@@ -1,7 +1,7 @@
 // What the ties into a mark offer its states: one more than the word of each state alive that a tie and a move lead from. A row of words is
 // lowered to the least offer.
 
-ghost use Rattle.std.specs.Prelude.{◌≡◌, ◌+◌, ◌≤◌, ◌<◌, length, get_or};
+ghost use Rattle.std.specs.Prelude.{◌+◌, ◌≤◌, ◌<◌, length};
 ghost use Rattle.walk.specs.Ceilings.{ceilings};
 ghost use Rattle.rows.specs.Offers.{Lowered, One, Each, Between, ByKind, Along, OfTie, Within, Living, AllLiving, Narrow, TiesIn};
 

@@ -2,7 +2,7 @@
 -- `first_given` refuses, `judged` refuses, and where it passes no row is given. Rows put behind others are reached only where none before them is
 -- given.
 use Prim.Native.Nat.{ℕ}
-use mathlib.Core.Path.{◌≡◌, refl, sym, ap}
+use mathlib.Core.Path.{◌≡◌, refl, ap}
 use mathlib.Core.Bool.{Bool, true, false}
 use mathlib.Core.List.Memᴰ
 use mathlib.Core.List.{List, [], ◌∷◌, ◌++◌}

@@ -7,7 +7,7 @@ ghost use Rattle.walk.specs.Ceilings.{ceilings};
 ghost use Rattle.walk.specs.Numbers.{has};
 ghost use Rattle.walk.specs.Answers.{condition_of};
 ghost use Rattle.tables.specs.Lent.{moves_of};
-ghost use Rattle.tables.specs.Steps.{Clear, InRange, Filled, steps};
+ghost use Rattle.tables.specs.Steps.{InRange, Filled, steps};
 
 use crate::gathered::Gathered;
 use crate::numbers::{Kind, State};

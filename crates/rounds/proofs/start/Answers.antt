@@ -26,10 +26,10 @@ open-requires c =
 pub tested-t-requires : goal.tested-t-requires
 tested-t-requires c = (accepted _ _ (sym c.in_ok-tested.ensures)).0.ends.1
 
-pub invariant_of-words : goal.invariant_of-words
-invariant_of-words c =
+pub of-words-requires : goal.of-words-requires
+of-words-requires c =
     let (a, room) = accepted _ _ (sym c.in_ok-tested.ensures) in
-    record { few = (a.sizes.marks.1, a.condition.states.1); room = omega (arith, room) }
+    (a.sizes.marks.1, a.condition.states.1, omega (arith, room))
 
 pub returns : goal.returns
 returns c =
@@ -41,4 +41,4 @@ returns c =
     let w = begun D A.area.now A' c.tested-s.result.0 a c.tested-s.ensures.is room c.open.ensures in
     let standing =
     standing-is D 0 A' (in_front D 0 A.area.now A' w) (omega (arith, room)) c.tested-t.result.0 c.tested-t.ensures.is a.ends.1 in
-    start-passed D A.area.now c.status.result A' passed (c.status.ensures ∙ standing) w
+    start-passed D A.area.now c.status.result A' passed (c.status.ensures ∙ rw c.of-words.ensures.2 standing) w

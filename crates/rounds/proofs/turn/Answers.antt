@@ -21,4 +21,4 @@ returns c m tab acc =
     let right' : take (pairs D) A' ≡ right D (A.done + 1) = rw add-one (in_front D (suc A.done) A.area.now A' w) in
     let standing = standing-is D (A.done + 1) A' right' (omega (arith, P.0)) c.tested-t.result.0 c.tested-t.ensures.is P.1 in
     turned-goes D A.area.now A.done A.found (P.4 m tab acc) c.status.result A' (sym c.going.ensures ∙ c.if-not-going.false)
-    (c.status.ensures ∙ standing) w
+    (c.status.ensures ∙ rw c.of-words.ensures.2 standing) w

@@ -13,7 +13,7 @@ offered-row-requires c =
     let F = c.loop-v.invariant.1 in
     let living =
     sofar_living L.question L.steps.table c.args.area.now c.args.r c.alive-live.result c.loop-v.area c.loop-v.v
-    (let h = c.requires.1 in omega arith) c.alive-live.ensures F in
+    (let h = c.requires.1 in omega arith) (rw c.of-words.ensures.2 at c.alive-live.ensures) F in
     (omega (arith, F.size, c.requires.0), living, c.tested-m.ensures.below, c.end-end.ensures.1, omega (arith, c.end-end.ensures.0.within, L.same))
 
 pub loop-v-preserved : goal.loop-v-preserved
@@ -35,8 +35,8 @@ loop-v-preserved c =
           (let few = c.requires.1 in omega arith) c.requires.2
           L.steps.sources c.alive-live.result n v c.loop-v.first c.end-end.result c.loop-v.area
           c.write.new.area o c.offered-row.result
-          L.leads c.alive-live.ensures (sym L.same) (rw c.tested-m.ensures.is at c.tested-m.ensures.below) c.loop-v.invariant.0 cut row low put
-          c.loop-v.invariant.1,
+          L.leads (rw c.of-words.ensures.2 at c.alive-live.ensures) (sym L.same) (rw c.tested-m.ensures.is at c.tested-m.ensures.below)
+          c.loop-v.invariant.0 cut row low put c.loop-v.invariant.1,
     )
 
 pub returns : goal.returns

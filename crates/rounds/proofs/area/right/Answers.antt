@@ -14,10 +14,13 @@ pub invariant_of-offers : goal.invariant_of-offers
 invariant_of-offers c =
     let L = c.args.lent.now in
     let Z = L.question in
-    record {
+    let words = c.of-words.ensures.2 in
+    rw words record {
       few = L.few.1;
       ties = L.columns;
-      living = alive_living c.alive-live.result c.args.area.now Z.network.marks Z.condition.states 0 _ (let h = c.requires.2 in omega arith) c.alive-live.ensures;
+      living =
+          alive_living c.alive-live.result c.args.area.now Z.network.marks Z.condition.states 0 _ (let h = c.requires.2 in omega arith)
+          (rw words at c.alive-live.ensures);
       narrow = L.leads.narrow;
     }
 
@@ -42,10 +45,11 @@ judged c =
     let opened : Row c.opening-row.result C.states (opening Z.ask.from C.start v) =
     subst (λ (k : ℕ). Row c.opening-row.result C.states (opening k C.start v)) c.tested-s.ensures.is
     (subst (λ (k : ℕ). Row c.opening-row.result C.states (opening c.tested-s.result.0 C.start k)) c.tested-m.ensures.is c.opening-row.ensures) in
-    let part : c.row.result.now ≡ row A C.states v = c.row.ensures.words ∙ ap (λ (k : ℕ). row A C.states k) c.tested-m.ensures.is in
-    compared Z L.steps.table A c.args.r size c.requires.2 L.steps.sources c.alive-live.result (length Z.to.now) L.leads c.alive-live.ensures
-    (sym L.same) v c.loop-v.first c.end-end.result c.opening-row.result c.lower_row.new.row _ c.loop-v-test.true c.loop-v.invariant.0
-    (cut_after c) opened c.lower_row.ensures part c.differs.result c.differs.ensures
+    let words = c.of-words.ensures.2 in
+    let part : c.row.result.now ≡ row A C.states v = rw words at c.row.ensures.words ∙ ap (λ (k : ℕ). row A C.states k) c.tested-m.ensures.is in
+    compared Z L.steps.table A c.args.r size c.requires.2 L.steps.sources c.alive-live.result (length Z.to.now) L.leads
+    (rw words at c.alive-live.ensures) (sym L.same) v c.loop-v.first c.end-end.result c.opening-row.result c.lower_row.new.row _
+    c.loop-v-test.true c.loop-v.invariant.0 (cut_after c) opened (rw words at c.lower_row.ensures) part c.differs.result c.differs.ensures
 
 pub returns-then-differs : goal.returns-then-differs
 returns-then-differs c = (judged (goal.at.returns-then-differs c).After-differs).1 c.if-differs.true

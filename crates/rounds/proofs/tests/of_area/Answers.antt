@@ -26,7 +26,6 @@ returns c m tab acc =
     let L = c.args.lent.now in
     let D = asked L.question m in
     let is_right = (c.right.ensures m tab acc).0 c.if-not-right.false in
-    let (room, _, to_in) = c.requires in (
-      wrong_passed D c.args.done c.args.area.now (omega arith) is_right,
-      c.status.ensures ∙ standing-is D c.args.done c.args.area.now is_right room c.tested-t.result.0 c.tested-t.ensures.is to_in,
-    )
+    let (room, _, to_in) = c.requires in
+    let standing = standing-is D c.args.done c.args.area.now is_right room c.tested-t.result.0 c.tested-t.ensures.is to_in in
+    (wrong_passed D c.args.done c.args.area.now (omega arith) is_right, c.status.ensures ∙ rw c.of-words.ensures.2 standing)

@@ -7,9 +7,8 @@ use Rattle.back.proofs.step.Step.over.Goals as goal
 
 pub leading-requires : goal.leading-requires
 leading-requires c =
-    let s = c.args.self.now in
     let alive = rw c.row.ensures.size at c.of_row-set.ensures in
-    (s.few, s.words.few.1, c.requires.1, λ p t. ltb-true p _ (and_in _ _ (sym (alive p) ∙ t)).0)
+    (c.requires.1, λ p t. ltb-true p _ (and_in _ _ (sym (alive p) ∙ t)).0)
 
 pub returns : goal.returns
 returns c = over-is _ _ _ _ _ _ _ _ _ _ c.row.ensures.words (rw c.row.ensures.size at c.of_row-set.ensures) c.leading.ensures

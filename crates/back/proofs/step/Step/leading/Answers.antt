@@ -1,8 +1,8 @@
--- `back::step::leading` meets its contract: the state at hand is joined to the set if it leads on.
+-- `back::step::Step::leading` meets its contract: the state at hand is joined to the set if it leads on.
 use Rattle.std.proofs.Common.{bit_or, ◌^◌, ◌∙◌, ◌≡◌}
 use Rattle.rows.proofs.AliveLaws.{joined_yes, joined_no}
 use Rattle.back.proofs.OverLaws.{up-to-none, up-to-more, up-to-end, leads_yes, leads_no}
-use Rattle.back.proofs.step.leading.Goals as goal
+use Rattle.back.proofs.step.Step.leading.Goals as goal
 
 pub loop-n-init : goal.loop-n-init
 loop-n-init c =
