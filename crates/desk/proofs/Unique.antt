@@ -10,7 +10,7 @@ use Rattle.walk.specs.declared.Next.{Next}
 use Rattle.walk.specs.Question.{Question}
 use Rattle.walk.specs.Calls.{Progress, start, round, first, next}
 use Rattle.walk.specs.Answers.{said_first, said_next, Meets}
-use Rattle.walk.proofs.Unique.{unique, unique_first, unique_next}
+use Rattle.walk.proofs.Unique.{unique_said, unique_first, unique_next}
 use Rattle.desk.specs.declared.Prepared.{Prepared}
 use Rattle.desk.specs.Answers.{progress_of, said_prepared}
 
@@ -22,10 +22,10 @@ prepared-back a = refl
 
 module _ (D : Question) where
   pub one_start : (area : List ℕ) (a b : Result Prepared Refused) (v w : List ℕ) → Meets (start D area) (said_prepared a) v → Meets (start D area) (said_prepared b) w → (a ≡ b) × (v ≡ w)
-  one_start area = unique progress_of prepared_of prepared-back (start D area)
+  one_start area = unique_said progress_of prepared_of prepared-back (start D area)
 
   pub one_round : (done : ℕ) (area : List ℕ) (a b : Result Prepared Refused) (v w : List ℕ) → Meets (round D done area) (said_prepared a) v → Meets (round D done area) (said_prepared b) w → (a ≡ b) × (v ≡ w)
-  one_round done area = unique progress_of prepared_of prepared-back (round D done area)
+  one_round done area = unique_said progress_of prepared_of prepared-back (round D done area)
 
   pub one_first : (done : ℕ) (area chain : List ℕ) (a b : Result First Refused) (v w : List ℕ) → Meets (first D done area chain) (said_first a) v → Meets (first D done area chain) (said_first b) w → (a ≡ b) × (v ≡ w)
   one_first done area chain = unique_first (List ℕ) (first D done area chain)

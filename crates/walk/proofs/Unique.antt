@@ -46,9 +46,11 @@ read_said {R} found back e (Ok x) = ap (λ (y : R). Ok y) (e x)
 read_said found back e (Err x) = ap (λ (n : Refusal). Err (record { refusal = n; place = x.place })) (named_number x.refusal)
 
 -- so what meets a promise is one
-pub unique : {R A B : Type 0} (found : R → A) (back : A → R) → ((x : R) → back (found x) ≡ x) → Unique (said found) B
-unique found back e d a b v w m n =
-    (sym (read_said found back e a) ∙ ap (read back) (m.answers ∙ sym n.answers) ∙ read_said found back e b, m.leaves ∙ sym n.leaves)
+pub unique : {A R B : Type 0} (said : R → Answer A) (read : Answer A → R) → ((a : R) → read (said a) ≡ a) → Unique said B
+unique said read back d a b v w m n = (sym (back a) ∙ ap read (m.answers ∙ sym n.answers) ∙ back b, m.leaves ∙ sym n.leaves)
+
+pub unique_said : {R A B : Type 0} (found : R → A) (back : A → R) → ((x : R) → back (found x) ≡ x) → Unique (said found) B
+unique_said found back e = unique (said found) (read back) (read_said found back e)
 
 abbrev first_of : Reply → First
 first_of Chain = first.Chain
@@ -60,7 +62,7 @@ first_back first.Chain = refl
 first_back first.None = refl
 
 pub unique_first : (B : Type 0) → Unique said_first B
-unique_first B = unique reply_first first_of first_back
+unique_first B = unique_said reply_first first_of first_back
 
 abbrev next_of : Reply → Next
 next_of Chain = next.Chain
@@ -72,4 +74,4 @@ next-back next.Chain = refl
 next-back next.End = refl
 
 pub unique_next : (B : Type 0) → Unique said_next B
-unique_next B = unique reply_next next_of next-back
+unique_next B = unique_said reply_next next_of next-back
