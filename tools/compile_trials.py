@@ -17,7 +17,7 @@ TRIALS = [
      "the method `enters` takes `self` as `Number<Ties>`, and is called on `Number<Marks>`"),
     ("a mark for a tie of a chain", "back", "fill.rt", "chain[i] = taken.tie.word()", "chain[i] = at.mark.word()",
      "the method `word` takes `self` as `Number<Ties>`, and is called on `Number<Marks>`"),
-    ("a kind for a state", "tables", "steps.rt", "steps.put(p, k, q)", "steps.put(k, k, q)", "expected `Number<States>`, found `Number<Kinds>`"),
+    ("a kind for a state", "tables", "steps.rt", "self.put(p, k, q)", "self.put(k, k, q)", "expected `Number<States>`, found `Number<Kinds>`"),
     ("a plain number for a state", "rows", "offers.rt", "lower(row, State::tested(n, states), w)", "lower(row, n, w)",
      "expected `Number<States>`, found `usize`"),
     ("a mark made without its entry", "rounds", "area.rt", "Mark::tested(v, marks)", "tables::numbers::Number(v, std::marker::PhantomData)",

@@ -47,7 +47,7 @@ impl<'a> Ground<'a> {
             marks: self.step.words.marks,
         };
         let run = runs.run(at.mark);
-        let first = run.start;
+        let first = run.first;
         let end = run.end;
         let low = low.saturating_sub(first);
         let (j, alive) = of_run(

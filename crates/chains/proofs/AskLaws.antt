@@ -99,7 +99,7 @@ pub record Listable (D : Question) (r : ℕ) (A c T : List ℕ) (n : ℕ) : Type
   pub room : n ≤ length c
 
 pub listable : (q : lent.Question) (D : Question) (r : ℕ) (A c : List ℕ) (l : Lent) (n : ℕ) → Asks q D r A (length c) (Ok (l, Some n))
-    → Listable D r A c l.steps.table n
+    → Listable D r A c l.steps.now.table n
 unfolding first_tests list_tests short_chain
 listable q D r A c l n (G, e, (_, F)) =
     let passed = passed_none _ (G c refl) in
@@ -114,11 +114,11 @@ listable q D r A c l n (G, e, (_, F)) =
 -- the ground of what is lent on, by the question that is asked
 pub over-is : (l : Lent) (q : lent.Question) (A : List ℕ) (g : Ground) → Over l A g → l.question ≡ q
     → (net g ≡ network_of q.network q.from.now q.to.now q.kinds.now)
-    × (back g ≡ over_tie l.steps.table A q.condition.states q.from.now q.kinds.now) × (g.step.words.marks ≡ q.network.marks)
+    × (back g ≡ over_tie l.steps.now.table A q.condition.states q.from.now q.kinds.now) × (g.step.words.marks ≡ q.network.marks)
 over-is l q A g O e = (O.net_is ∙ ap net_of e, O.back_is ∙ ap back_of e, O.marks_are ∙ ap (λ (z : lent.Question). z.network.marks) e)
   where
     net_of : lent.Question → Network
     net_of z = network_of z.network z.from.now z.to.now z.kinds.now
 
     back_of : lent.Question → ℕ → ℕ → ℕ → ℕ
-    back_of z = over_tie l.steps.table A z.condition.states z.from.now z.kinds.now
+    back_of z = over_tie l.steps.now.table A z.condition.states z.from.now z.kinds.now

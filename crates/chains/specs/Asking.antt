@@ -18,7 +18,7 @@ Gives D r A room v = (c : List ℕ) → length c ≡ room → first_given (first
 
 -- what is lent on of the question D that q asks
 abbrev pub OfQuestion : lent.Question → Question → Lent → Type 0
-OfQuestion q D l = (l.question ≡ q) × Filled l.steps.table l.steps.sources D.condition
+OfQuestion q D l = (l.question ≡ q) × Filled l.steps.now.table l.steps.now.sources D.condition
 
 -- the tests answered so
 abbrev pub Asks : lent.Question → Question → ℕ → List ℕ → ℕ → Result (Lent × Option ℕ) Refused → Type 0

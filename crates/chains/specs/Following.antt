@@ -20,7 +20,7 @@ use Rattle.back.specs.Chain.{Fillable, seen}
 pub record Over (l : Lent) (A : List ℕ) (g : Ground) : Type 0 where
   pub marks_are : g.step.words.marks ≡ l.question.network.marks
   pub net_is : net g ≡ network_of l.question.network l.question.from.now l.question.to.now l.question.kinds.now
-  pub back_is : back g ≡ over_tie l.steps.table A l.question.condition.states l.question.from.now l.question.kinds.now
+  pub back_is : back g ≡ over_tie l.steps.now.table A l.question.condition.states l.question.from.now l.question.kinds.now
 
 -- the answer, and what is left of the buffer c
 abbrev pub answer_of : Result (Option Raised) Unlisted → Result Next Refused

@@ -23,6 +23,7 @@ use rounds::lent::Lent;
 use rows::Words;
 use tables::gathered::Gathered;
 use tables::numbers::Mark;
+use tables::steps::Steps;
 use walk::{First, Next, Question, Refusal, Refused};
 
 // "First gives the earliest chain in the order, or says None and writes nothing."
@@ -36,7 +37,8 @@ pub fn first(
     ensures { Meets (first (asked question.now (moves_of moves.now.count moves.now.numbers)) done area.now chain.old) (said_first result)
         chain.new }
 {
-    let (lent, found) = tests::tested(done, question, moves, area, chain.len())?;
+    let mut steps = Steps::empty();
+    let (lent, found) = tests::tested(done, question, moves, area, chain.len(), &mut steps)?;
     let Some(n) = found else {
         return Ok(First::None);
     };
@@ -57,7 +59,8 @@ pub fn next(
     ensures { Meets (next (asked question.now (moves_of moves.now.count moves.now.numbers)) done area.now chain.old) (said_next result)
         chain.new }
 {
-    let (lent, found) = tests::tested(done, question, moves, area, chain.len())?;
+    let mut steps = Steps::empty();
+    let (lent, found) = tests::tested(done, question, moves, area, chain.len(), &mut steps)?;
     let Some(n) = found else {
         return Err(Refused {
             refusal: Refusal::NotListed,
@@ -84,7 +87,7 @@ fn at_end(question: &Question, area: &[u16], n: usize) -> At
 }
 
 // What the chains are found over: what is lent, with the area that was tested.
-fn ground<'a>(lent: &'a Lent<'a>, area: &'a [u16]) -> Ground<'a>
+fn ground<'a>(lent: &'a Lent<'a, 'a>, area: &'a [u16]) -> Ground<'a>
     requires { (lent.now.question.network.marks * lent.now.question.condition.states ≤ length area.now)
         × (length lent.now.question.from.now ≤ ceilings.ties) }
     ensures { Over lent.now area.now result }
@@ -94,7 +97,7 @@ fn ground<'a>(lent: &'a Lent<'a>, area: &'a [u16]) -> Ground<'a>
     let step = Step {
         words,
         kinds: question.network.kinds,
-        steps: &lent.steps,
+        steps: lent.steps,
     };
     Ground {
         from: question.from,

@@ -1,4 +1,5 @@
--- The parameters that the public calls have in common, as a walk by hand hands them to the laws of `Relay.antt` and `Loan.antt`. Assumes nothing.
+-- The parameters of a call that is lent each part of a question by itself, as a walk by hand hands them to the laws of `Relay.antt` and `Loan.antt`;
+-- the calls here are lent them in one struct. Assumes nothing.
 use Prim.Native.Nat.{ℕ, suc}
 use mathlib.Core.List.{List, [], ◌∷◌}
 use contract.Lifetimes.{Lfts}

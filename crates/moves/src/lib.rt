@@ -23,13 +23,13 @@ fn put(numbers: &mut [u16; Condition::NUMBERS], j: usize, from: u16, kind: u16, 
 pub fn gather(moves: &[Move]) -> Gathered
     ensures { result ≡ gathered moves.now }
 {
-    let mut numbers = [0u16; Condition::NUMBERS];
+    let mut gathered = Gathered {
+        count: moves.len(),
+        numbers: [0u16; Condition::NUMBERS],
+    };
     for j in 0..moves.len().min(Condition::MOVES) {
         let m = moves[j];
-        put(&mut numbers, j, m.from, m.kind, m.to);
+        put(&mut gathered.numbers, j, m.from, m.kind, m.to);
     }
-    Gathered {
-        count: moves.len(),
-        numbers,
-    }
+    gathered
 }

@@ -54,10 +54,8 @@ module _ (Z : lent.Question) (m : List Move) (acc : Accepted (asked Z m)) where
   pub ties_in : TiesIn Z.network.marks Z.network.kinds (length Z.from.now) Z.from.now Z.kinds.now
   ties_in = record { froms = refl; kind_sets = acc.sizes.columns.1; from_in = λ e h. (acc.tie e h).from; kind_in = λ e h. (acc.tie e h).kinds }
 
-  pub rising : Rising Z.to.now (length Z.to.now) Z.network.marks
-  rising =
-      let same : length Z.to.now ≡ length Z.from.now = acc.sizes.columns.0 in
-      record { size = refl; mark_in = λ e h. (acc.tie e (omega arith)).to; rises = λ e h. acc.order (suc e) (omega arith) e refl }
+  pub rising : Rising Z.to.now (length Z.from.now) Z.network.marks
+  rising = record { size = acc.sizes.columns.0; mark_in = λ e h. (acc.tie e h).to; rises = λ e h. acc.order (suc e) h e refl }
 
 -- V, K and Q within their ceilings, and room for V×Q words
 pub sized : (V K Q : ℕ) (A : List ℕ) → (V ≤ ceilings.marks) × (K ≤ ceilings.kinds) × (Q ≤ ceilings.states) → V * Q ≤ length A → Sized V K Q A

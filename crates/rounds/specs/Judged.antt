@@ -21,7 +21,7 @@ use Rattle.rounds.specs.Answers.{progress_of}
 abbrev pub Judges : lent.Question → Question → ℕ → List ℕ → Result (Lent × Status) Refused → Type 0
 Judges q D r A (Err e) = first_given (round_tests D r A) ≡ Err e
 Judges q D r A (Ok (l, s)) =
-    (first_given (round_tests D r A) ≡ Ok tt) × (s ≡ status D r) × (l.question ≡ q) × Filled l.steps.table l.steps.sources D.condition
+    (first_given (round_tests D r A) ≡ Ok tt) × (s ≡ status D r) × (l.question ≡ q) × Filled l.steps.now.table l.steps.now.sources D.condition
 
 -- a round after refusals 1 to 8
 unfoldable pub turned : Question → ℕ → List ℕ → Done Progress (List ℕ)

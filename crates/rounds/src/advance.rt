@@ -16,14 +16,15 @@ use walk::{Condition, Network};
 // The right area for r rounds becomes the right one for r + 1.
 pub fn advance(lent: &Lent, r: u16, area: &mut [u16])
     requires { (lent.now.question.network.marks * lent.now.question.condition.states ≤ length area.old)
-        × (r + 1 < ceilings.unreached) × IsRight lent.now.question lent.now.steps.table r area.old }
-    ensures { Advances lent.now.question lent.now.steps.table r area.old area.new }
+        × (r + 1 < ceilings.unreached) × IsRight lent.now.question lent.now.steps.now.table r area.old }
+    ensures { Advances lent.now.question lent.now.steps.now.table r area.old area.new }
 {
     let question = lent.question;
     let marks = question.network.marks;
     let states = question.condition.states;
     let words = Words::of(area, question.network, question.condition);
-    let live = words.alive(r, r + 1);
+    let mut live = [0u32; Network::MARKS];
+    words.alive(r, r + 1, &mut live);
     let runs = Runs {
         to: question.to,
         marks,
@@ -40,7 +41,7 @@ pub fn advance(lent: &Lent, r: u16, area: &mut [u16])
 
 // The row of mark v as it stands, lowered by what its ties offer.
 fn offered<'a>(
-    lent: &'a Lent<'a>,
+    lent: &'a Lent<'a, 'a>,
     area: &'a [u16],
     live: &'a [u32; Network::MARKS],
     v: Mark,
@@ -49,7 +50,7 @@ fn offered<'a>(
     requires { (lent.now.question.network.marks * lent.now.question.condition.states ≤ length area.now)
         × AllLiving live.now area.now lent.now.question.network.marks lent.now.question.condition.states
         × (v.0 < lent.now.question.network.marks) × (ties.start ≤ ties.end) × (ties.end ≤ length lent.now.question.from.now) }
-    ensures { RowOffered lent.now.question lent.now.steps.table lent.now.steps.sources live.now area.now v.0 ties.start ties.end result }
+    ensures { RowOffered lent.now.question lent.now.steps.now.table lent.now.steps.now.sources live.now area.now v.0 ties.start ties.end result }
 {
     let question = lent.question;
     let marks = question.network.marks;
@@ -61,7 +62,7 @@ fn offered<'a>(
         from: question.from,
         sets: question.kinds,
         kinds: question.network.kinds,
-        steps: &lent.steps,
+        steps: lent.steps,
     };
     let mut row = rows::fetch(area, rows::place(v, states, marks), states);
     offers.lower_row(&mut row, ties);

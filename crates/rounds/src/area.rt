@@ -9,25 +9,27 @@ use rows::Words;
 use rows::offers::Offers;
 use tables::numbers::Mark;
 use tables::runs::Runs;
+use walk::Network;
 
 // The area is the right one for r rounds.
 pub fn right(lent: &Lent, r: u16, area: &[u16]) -> bool
     requires { (lent.now.question.network.marks * lent.now.question.condition.states ≤ length area.now)
         × (lent.now.question.ask.from < lent.now.question.network.marks) × (r < ceilings.unreached) }
-    ensures { Tells lent.now.question lent.now.steps.table result r area.now }
+    ensures { Tells lent.now.question lent.now.steps.now.table result r area.now }
 {
     let question = lent.question;
     let marks = question.network.marks;
     let s = Mark::tested(question.ask.from, marks);
     let words = Words::of(area, question.network, question.condition);
-    let live = words.alive(0, r);
+    let mut live = [0u32; Network::MARKS];
+    words.alive(0, r, &mut live);
     let offers = Offers {
         words,
         live: &live,
         from: question.from,
         sets: question.kinds,
         kinds: question.network.kinds,
-        steps: &lent.steps,
+        steps: lent.steps,
     };
     let runs = Runs {
         to: question.to,

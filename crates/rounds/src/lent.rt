@@ -10,13 +10,13 @@ use tables::steps::Steps;
 use walk::Question;
 
 #[derive(Clone, Copy)]
-pub struct Lent<'a> {
+pub struct Lent<'a, 'b> {
     pub question: Question<'a>,
-    pub steps: Steps,
+    pub steps: &'b Steps,
     ghost few: { (question.network.marks ≤ ceilings.marks) × (question.network.kinds ≤ ceilings.kinds)
         × (question.condition.states ≤ ceilings.states) },
     ghost columns: { TiesIn question.network.marks question.network.kinds (length question.from.now) question.from.now question.kinds.now },
     ghost rising: { Rising question.to.now (length question.to.now) question.network.marks },
     ghost same: { length question.to.now ≡ length question.from.now },
-    ghost leads: { Leads steps.table steps.sources question.condition.states },
+    ghost leads: { Leads steps.now.table steps.now.sources question.condition.states },
 }

@@ -23,6 +23,7 @@ use crate::status::status;
 use rows::Words;
 use tables::gathered::Gathered;
 use tables::numbers::Mark;
+use tables::steps::Steps;
 use walk::{Question, Refused, Status};
 
 // "Start writes the right area for 0 rounds and hands back the count 0." The count stands beside the status.
@@ -52,7 +53,8 @@ pub fn round(
 ) -> Result<(usize, Status), Refused>
     ensures { Meets (round (asked question.now (moves_of moves.now.count moves.now.numbers)) done area.old) (said_prepared result) area.new }
 {
-    let (lent, found) = tests::tested(done, question, moves, area)?;
+    let mut steps = Steps::empty();
+    let (lent, found) = tests::tested(done, question, moves, area, &mut steps)?;
     Ok(turn(done, found, &lent, area))
 }
 
@@ -67,9 +69,9 @@ fn turn(done: usize, found: Status, lent: &Lent, area: &mut [u16]) -> (usize, St
     requires { (lent.now.question.network.marks * lent.now.question.condition.states ≤ length area.old)
         × (lent.now.question.ask.to < lent.now.question.network.marks)
         × (done ≤ lent.now.question.network.marks * lent.now.question.condition.states)
-        × IsRight lent.now.question lent.now.steps.table done area.old
-        × Every lent.now.question lent.now.steps.table (λ D. found ≡ status D done) }
-    ensures { Turns lent.now.question lent.now.steps.table done area.old result area.new }
+        × IsRight lent.now.question lent.now.steps.now.table done area.old
+        × Every lent.now.question lent.now.steps.now.table (λ D. found ≡ status D done) }
+    ensures { Turns lent.now.question lent.now.steps.now.table done area.old result area.new }
 {
     if !going(found) {
         return (done, found);

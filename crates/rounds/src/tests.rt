@@ -1,8 +1,10 @@
 // The tests behind refusals 1 to 8, which a round and the calls of the listing share: those of `tables`, then the count and the area.
 
 ghost use Rattle.std.specs.Prelude.{◌*◌, ◌≤◌, ◌<◌, length};
+ghost use Rattle.walk.specs.Ceilings.{ceilings};
 ghost use Rattle.walk.specs.Answers.{asked};
 ghost use Rattle.tables.specs.Lent.{moves_of};
+ghost use Rattle.tables.specs.Steps.{Clear};
 ghost use Rattle.rounds.specs.Judged.{Stood, Judges};
 
 use crate::area::right;
@@ -19,7 +21,7 @@ use walk::{Question, Refusal, Refused, Status};
 fn of_area(done: usize, lent: &Lent, area: &[u16]) -> Result<Status, Refused>
     requires { (lent.now.question.network.marks * lent.now.question.condition.states ≤ length area.now)
         × (lent.now.question.ask.from < lent.now.question.network.marks) × (lent.now.question.ask.to < lent.now.question.network.marks) }
-    ensures { Stood lent.now.question lent.now.steps.table done area.now result }
+    ensures { Stood lent.now.question lent.now.steps.now.table done area.now result }
 {
     let question = lent.question;
     let marks = question.network.marks;
@@ -35,18 +37,21 @@ fn of_area(done: usize, lent: &Lent, area: &[u16]) -> Result<Status, Refused>
 }
 
 // Refusals 1 to 8. Where 1 to 7 pass, the moves are brought into the step table.
-pub fn tested<'a>(
+pub fn tested<'a, 'b>(
     done: usize,
     question: &Question<'a>,
     moves: &Gathered,
     area: &[u16],
-) -> Result<(Lent<'a>, Status), Refused>
+    steps: &'b mut Steps,
+) -> Result<(Lent<'a, 'b>, Status), Refused>
+    requires { Clear steps.old.table (ceilings.kinds * ceilings.states) × Clear steps.old.sources ceilings.kinds }
     ensures { Judges question.now (asked question.now (moves_of moves.now.count moves.now.numbers)) done area.now result }
 {
     tables::tests::tested(question, moves, area)?;
+    steps.fill(question.condition, question.network.kinds, moves);
     let lent = Lent {
         question: *question,
-        steps: Steps::of(question.condition, question.network.kinds, moves),
+        steps: &*steps,
     };
     let found = of_area(done, &lent, area)?;
     Ok((lent, found))

@@ -2,10 +2,9 @@
 -- written once and touches no other, so after the last mark every word below V×Q is as it should be and every other one as it was.
 use Prim.Native.Nat.{ℕ, ◌+◌, ◌-◌, ◌*◌, ◌≤◌, ◌<◌}
 use mathlib.Core.Path.{◌≡◌, refl, sym, ◌∙◌, subst, ap}
-use mathlib.Core.Bool.{Bool, true, false, false≢true, cond, not}
+use mathlib.Core.Bool.{Bool, true, false, cond}
 use mathlib.Core.List.{List, ◌++◌}
 use mathlib.Core.Logic.{◌⊎◌, inl, inr}
-use mathlib.Mathlib.Data.Bool.Basic.{eq-false_of_not-eq-true}
 use native.Mathlib.Omega.{arith}
 use native.Mathlib.Nat.{mul-le-mul, mul-le-mul_right, suc-mul}
 use native.Mathlib.Numerals.{add-one}
@@ -13,14 +12,11 @@ use lib.Dec.{ltb, eqb}
 use lib.ListN.{length, get_or, set, take, drop, length-set, length-drop, take-append-drop, replicate, get_or-replicate, length-replicate}
 use lib.Seq.{ext_get_or, get_or-take, get_or-drop, get_or-set_same, get_or-set_other, length-take-le}
 use borrow.Author.Tests.{eqb-true, eqb-false, ltb-true, ltb-false, eq-eqb, ne_eqb, lt-ltb, le-ltb}
-use Rattle.std.specs.Str.{bytes_eq}
-use Rattle.std.proofs.lemmas.Slice.Eq.{bytes_eq-Decides}
 use Rattle.walk.specs.Ceilings.{ceilings}
 use Rattle.walk.specs.Numbers.{has, ◌and◌, any_below}
-use Rattle.walk.proofs.Numbers.{any_below_in, any_below_of}
-use Rattle.tables.proofs.StepLaws.{no_and, yes_and}
+use Rattle.tables.proofs.StepLaws.{any-more, no_and, yes_and}
 use Rattle.tables.specs.Sets.{LowestFrom}
-use Rattle.rows.specs.Rows.{row, opening, Row, Put, RowsTo, differ}
+use Rattle.rows.specs.Rows.{row, opening, Row, Put, RowsTo}
 
 -- where a row stands
 pub place_in : (v Q n : ℕ) → v < n → n ≤ ceilings.marks → Q ≤ ceilings.states → (v * Q + Q ≤ n * Q) × (n * Q ≤ ceilings.words)
@@ -146,32 +142,6 @@ whole A A' X n size e rest = sym (take-append-drop n A') ∙ ap (λ (l : List �
     same = ext_get_or 0 (drop n A') (drop n A) (length-drop n A' ∙ ap (λ (k : ℕ). k - n) size ∙ sym (length-drop n A))
         (λ i h. get_or-drop n A' i 0 ∙ rest (n + i) (omega arith) ∙ sym (get_or-drop n A i 0))
 
--- a part is not as many first words of the row, if some word of it is not that of the row
-pub differ_is : (W b : List ℕ) → length W ≤ length b → not (bytes_eq W (take (length W) b)) ≡ differ W b (length W)
-differ_is W b h = go (bytes_eq W (take (length W) b)) refl
-  where
-    other : ℕ → Bool
-    other q = not (eqb (get_or W q 0) (get_or b q 0))
-
-    word : (i : ℕ) → any_below (length W) other ≡ false → i < length W → (t : Bool) → eqb (get_or W i 0) (get_or b i 0) ≡ t
-        → get_or W i 0 ≡ get_or b i 0
-    word i n l true f = eqb-true _ _ f
-    word i n l false f = absurd (false≢true (sym n ∙ any_below_of (length W) other i l (ap not f)))
-
-    same : any_below (length W) other ≡ false → W ≡ take (length W) b
-    same n = ext_get_or 0 W (take (length W) b) (sym (length-take-le (length W) b h))
-        (λ i l. word i n l (eqb (get_or W i 0) (get_or b i 0)) refl ∙ sym (get_or-take (length W) b i 0 l))
-
-    none : W ≡ take (length W) b → any_below (length W) other ≡ true → ⊥
-    none e y =
-        let (i, l, z) = any_below_in (length W) other y in
-        let x : get_or W i 0 ≡ get_or b i 0 = ap (λ (w : List ℕ). get_or w i 0) e ∙ get_or-take (length W) b i 0 l in
-        false≢true (sym (ap not (eq-eqb _ _ x)) ∙ z)
-
-    some : bytes_eq W (take (length W) b) ≡ false → (t : Bool) → any_below (length W) other ≡ t → true ≡ any_below (length W) other
-    some e true f = sym f
-    some e false f = absurd (false≢true (sym e ∙ (bytes_eq-Decides W (take (length W) b)).1 (same f)))
-
-    go : (t : Bool) → bytes_eq W (take (length W) b) ≡ t → not t ≡ any_below (length W) other
-    go true e = sym (eq-false_of_not-eq-true (none ((bytes_eq-Decides W (take (length W) b)).0 e)))
-    go false e = some e (any_below (length W) other) refl
+-- a search that has passed every number below n without a hit
+pub any_none : (n : ℕ) (p : ℕ → Bool) → any_below n p ≡ false → p n ≡ false → any_below (n + 1) p ≡ false
+any_none n p h e = any-more n p ∙ rw (e, h)

@@ -35,14 +35,12 @@ pub fn of_row(words: &[u16], lo: u16, hi: u16) -> u32
 }
 
 impl<'a> Words<'a> {
-    // The states of each mark.
-    pub fn alive(&self, lo: u16, hi: u16) -> [u32; Network::MARKS]
-        ensures { Alive result self.now.area.now self.now.marks self.now.states lo hi }
+    // The states of each mark are written.
+    pub fn alive(&self, lo: u16, hi: u16, live: &mut [u32; Network::MARKS])
+        ensures { Alive live.new self.now.area.now self.now.marks self.now.states lo hi }
     {
-        let mut live = [0u32; Network::MARKS];
         for v in 0..self.marks {
             live[v] = of_row(self.row(Mark::tested(v, self.marks)), lo, hi);
         }
-        live
     }
 }

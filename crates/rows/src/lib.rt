@@ -94,7 +94,12 @@ pub fn differs(words: &[u16], row: &[u16; Condition::STATES]) -> bool
     requires { length words.now ≤ ceilings.states }
     ensures { result ≡ differ words.now row.now (length words.now) }
 {
-    words != &row[..words.len()]
+    for (q, &w) in words.iter().enumerate() {
+        if w != row[q] {
+            return true;
+        }
+    }
+    false
 }
 
 // The right area for 0 rounds, mark by mark.

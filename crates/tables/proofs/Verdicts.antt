@@ -2,7 +2,7 @@
 -- `first_given` refuses, `judged` refuses, and where it passes no row is given. Rows put behind others are reached only where none before them is
 -- given.
 use Prim.Native.Nat.{ℕ}
-use mathlib.Core.Path.{◌≡◌, refl, ap}
+use mathlib.Core.Path.{◌≡◌, refl, ap, ◌∙◌}
 use mathlib.Core.Bool.{Bool, true, false}
 use mathlib.Core.List.Memᴰ
 use mathlib.Core.List.{List, [], ◌∷◌, ◌++◌}
@@ -28,11 +28,11 @@ refusal_in (Err e) = e
 
 -- the answer v is that of the rows from x on
 module _ {v : Result (Unit {0}) Refused} (x : Row) (l : List Row) (h : first_given (x ∷ l) ≡ v) where
-  row-answers : x.given ≡ true → at x.name x.place ≡ v
+  pub row-answers : {p : ℕ} → p ≡ x.place → x.given ≡ true → at x.name p ≡ v
   unfolding first_given
-  row-answers g = rw g at h
+  row-answers e g = ap (at x.name) e ∙ (rw g at h)
 
-  row-passes : x.given ≡ false → first_given l ≡ v
+  pub row-passes : x.given ≡ false → first_given l ≡ v
   unfolding first_given
   row-passes g = rw g at h
 
@@ -45,7 +45,7 @@ refused-answers {A} {B} w d (x ∷ l) n p h = go x.given refl (λ k. refused-ans
     go : (t : Bool) → x.given ≡ t → (first_given l ≡ at n p → judged l w d ≡ record { answer = refused (number n) p; left = w })
         → ◌≡◌ {A = Done A B} (elim t [ true ↦ record { answer = refused (number x.name) x.place; left = w } | false ↦ judged l w d ])
         (record { answer = refused (number n) p; left = w })
-    go true e ih = ap (λ (r : Refused). record { answer = refused (number r.refusal) r.place; left = w }) (ap refusal_in (row-answers x l h e))
+    go true e ih = ap (λ (r : Refused). record { answer = refused (number r.refusal) r.place; left = w }) (ap refusal_in (row-answers x l h refl e))
     go false e ih = ih (row-passes x l h e)
 
 pub passed_none : (l : List Row) → first_given l ≡ Ok tt → NoneGiven l
@@ -54,7 +54,7 @@ passed_none [] h = λ x m. absurd (Memᴰ.not-nil m)
 passed_none (x ∷ l) h = go x.given refl (λ k. passed_none l k)
   where
     go : (t : Bool) → x.given ≡ t → (first_given l ≡ Ok tt → NoneGiven l) → NoneGiven (x ∷ l)
-    go true e ih = let q = row-answers x l h e in clash (cc)
+    go true e ih = let q = row-answers x l h refl e in clash (cc)
     go false e ih = (none-append (x ∷ []) l).1 ((none_one x).1 e, ih (row-passes x l h e))
 
 -- rows put behind others

@@ -4,7 +4,6 @@ ghost use Rattle.std.specs.Prelude.{ℕ, suc, ◌<◌, ◌≤◌, length, get_or
 ghost use Rattle.tables.specs.Runs.{Rising, Cut, RunInto};
 
 use crate::numbers::{Mark, Tie};
-use std::ops::Range;
 
 // The to column, in which the runs stand one after another.
 #[derive(Clone, Copy)]
@@ -12,6 +11,13 @@ pub struct Runs<'a> {
     pub to: &'a [u16],
     pub marks: usize,
     ghost rising: { Rising to.now (length to.now) marks },
+}
+
+// A run: its first tie, and the end past its last.
+#[derive(Clone, Copy)]
+pub struct Run {
+    pub first: usize,
+    pub end: usize,
 }
 
 impl<'a> Runs<'a> {
@@ -34,10 +40,13 @@ impl<'a> Runs<'a> {
     }
 
     // The run of the ties into v.
-    pub fn run(&self, v: Mark) -> Range<usize>
+    pub fn run(&self, v: Mark) -> Run
         requires { v.0 < self.now.marks }
-        ensures { RunInto self.now.to.now (length self.now.to.now) v.0 result.start result.end }
+        ensures { RunInto self.now.to.now (length self.now.to.now) v.0 result.first result.end }
     {
-        self.first_from(v.index())..self.first_from(v.index() + 1)
+        Run {
+            first: self.first_from(v.index()),
+            end: self.first_from(v.index() + 1),
+        }
     }
 }

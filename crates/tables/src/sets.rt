@@ -19,7 +19,7 @@ pub fn only_below(n: usize, set: u32) -> bool
     requires { n ≤ 32 }
     ensures { result ≡ only_below n set }
 {
-    u64::from(set) >> n == 0
+    n == 32 || set >> n == 0
 }
 
 // The elements of a set, lowest first: those from `at` on are still to come.

@@ -7,7 +7,7 @@ ghost use Rattle.walk.specs.Ceilings.{ceilings};
 ghost use Rattle.walk.specs.Numbers.{has};
 ghost use Rattle.walk.specs.Answers.{condition_of};
 ghost use Rattle.tables.specs.Lent.{moves_of};
-ghost use Rattle.tables.specs.Steps.{InRange, Filled, steps};
+ghost use Rattle.tables.specs.Steps.{Clear, InRange, Filled, steps};
 
 use crate::gathered::Gathered;
 use crate::numbers::{Kind, State};
@@ -24,24 +24,31 @@ pub struct Steps {
 impl Steps {
     pub const WORDS: usize = Network::KINDS * Condition::STATES;
 
-    // The table of the moves.
-    pub fn of(condition: Condition, kinds: usize, moves: &Gathered) -> Steps
-        requires { InRange kinds (condition_of condition (moves_of moves.now.count moves.now.numbers)) }
-        ensures { Filled result.table result.sources (condition_of condition (moves_of moves.now.count moves.now.numbers)) }
+    // The table of no moves.
+    pub fn empty() -> Steps
+        ensures table { Clear result.table (ceilings.kinds * ceilings.states) }
+        ensures sources { Clear result.sources ceilings.kinds }
     {
-        let states = condition.states;
-        let mut steps = Steps {
+        Steps {
             table: [0u32; Steps::WORDS],
             sources: [0u32; Network::KINDS],
-        };
+        }
+    }
+
+    // The table of the moves, where none stands in it yet.
+    pub fn fill(&mut self, condition: Condition, kinds: usize, moves: &Gathered)
+        requires { Clear self.old.table (ceilings.kinds * ceilings.states) × Clear self.old.sources ceilings.kinds
+            × InRange kinds (condition_of condition (moves_of moves.now.count moves.now.numbers)) }
+        ensures { Filled self.new.table self.new.sources (condition_of condition (moves_of moves.now.count moves.now.numbers)) }
+    {
+        let states = condition.states;
         for j in 0..moves.count {
             let m = moves.fetched(j);
             let p = State::tested(usize::from(m.from), states);
             let k = Kind::tested(usize::from(m.kind), kinds);
             let q = State::tested(usize::from(m.to), states);
-            steps.put(p, k, q);
+            self.put(p, k, q);
         }
-        steps
     }
 
     // One move more: from p under k to q.

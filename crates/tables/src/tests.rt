@@ -71,11 +71,9 @@ fn bad_tie(question: &Question) -> Result<(), Refused>
         × (length question.now.kinds.now ≡ length question.now.from.now) }
     ensures { (m : List Move) → result ≡ first_given (bad_tie (asked question.now m) ∷ []) }
 {
-    unless_any(
-        question.from.len(),
-        Refusal::BadTie,
-        |e| bad_tie_at(question, e),
-    )
+    // At hand, so that where the columns stand is not fetched anew for each tie.
+    let lent = *question;
+    unless_any(lent.from.len(), Refusal::BadTie, |e| bad_tie_at(&lent, e))
 }
 
 // The to mark of tie e "is below that of the tie before".
@@ -128,10 +126,11 @@ fn bad_move(question: &Question, moves: &Gathered) -> Result<(), Refused>
     requires { moves.now.count ≤ ceilings.moves }
     ensures { result ≡ first_given (bad_move (asked question.now (moves_of moves.now.count moves.now.numbers)) ∷ []) }
 {
+    let lent = *question;
     unless_any(
         moves.count,
         Refusal::BadMove,
-        |j| bad_move_at(question, moves, j),
+        |j| bad_move_at(&lent, moves, j),
     )
 }
 

@@ -18,7 +18,7 @@ left : (c : In-Some) → let A = c.args in
 left c = rw c.in-Some.is at c.in_ok-lent.ensures
 
 found : (c : In-Some) → let A = c.args in
-    Listable (asked A.question.now (moves_of A.moves.now.count A.moves.now.numbers)) A.done A.area.now A.chain.now c.in_ok-lent.lent.steps.table c.in-Some.n
+    Listable (asked A.question.now (moves_of A.moves.now.count A.moves.now.numbers)) A.done A.area.now A.chain.now c.in_ok-lent.lent.steps.now.table c.in-Some.n
 found c = listable _ _ _ _ _ c.in_ok-lent.lent _ (left c)
 
 pub returns-in_err-lent : goal.returns-in_err-lent

@@ -14,7 +14,7 @@ returns-in_err-lent c =
 pub turn-requires : goal.turn-requires
 turn-requires c =
     let A = c.args in
-    let T = c.in_ok-lent.lent.steps.table in
+    let T = c.in_ok-lent.lent.steps.now.table in
     let (passed, is, same, F) = c.in_ok-lent.ensures in
     let (a, room, few, _) = accepted_right _ _ _ passed in
     let (R, E) = every_list A.question.now (moves_of A.moves.now.count A.moves.now.numbers) A.done A.area.now T _ passed is F.tabled in

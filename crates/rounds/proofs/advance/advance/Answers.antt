@@ -12,8 +12,8 @@ offered-row-requires c =
     let L = c.args.lent.now in
     let F = c.loop-v.invariant.1 in
     let living =
-    sofar_living L.question L.steps.table c.args.area.now c.args.r c.alive-live.result c.loop-v.area c.loop-v.v
-    (let h = c.requires.1 in omega arith) (rw c.of-words.ensures.2 at c.alive-live.ensures) F in
+    sofar_living L.question L.steps.now.table c.args.area.now c.args.r c.alive.new.live c.loop-v.area c.loop-v.v
+    (let h = c.requires.1 in omega arith) (rw c.of-words.ensures.2 at c.alive.ensures) F in
     (omega (arith, F.size, c.requires.0), living, c.tested-m.ensures.below, c.end-end.ensures.1, omega (arith, c.end-end.ensures.0.within, L.same))
 
 pub loop-v-preserved : goal.loop-v-preserved
@@ -30,12 +30,12 @@ loop-v-preserved c =
     subst (λ (k : ℕ). Put c.loop-v.area c.write.new.area c.offered-row.result k Q) placed c.write.ensures in
     let (o, row, low) = rw c.tested-m.ensures.is at c.offered-row.ensures in (
       rw add-one cut,
-      sofar_more Z L.steps.table c.args.area.now c.args.r
+      sofar_more Z L.steps.now.table c.args.area.now c.args.r
           (sized Z.network.marks Z.network.kinds Q c.args.area.now L.few c.requires.0)
           (let few = c.requires.1 in omega arith) c.requires.2
-          L.steps.sources c.alive-live.result n v c.loop-v.first c.end-end.result c.loop-v.area
+          L.steps.now.sources c.alive.new.live n v c.loop-v.first c.end-end.result c.loop-v.area
           c.write.new.area o c.offered-row.result
-          L.leads (rw c.of-words.ensures.2 at c.alive-live.ensures) (sym L.same) (rw c.tested-m.ensures.is at c.tested-m.ensures.below)
+          L.leads (rw c.of-words.ensures.2 at c.alive.ensures) (sym L.same) (rw c.tested-m.ensures.is at c.tested-m.ensures.below)
           c.loop-v.invariant.0 cut row low put c.loop-v.invariant.1,
     )
 
@@ -44,6 +44,6 @@ returns c =
     let L = c.args.lent.now in
     let Z = L.question in
     let done : c.loop-v.v ≡ Z.network.marks = omega arith in
-    sofar_all Z L.steps.table c.args.area.now c.args.r
+    sofar_all Z L.steps.now.table c.args.area.now c.args.r
     (sized Z.network.marks Z.network.kinds Z.condition.states c.args.area.now L.few c.requires.0)
     (let h = c.requires.1 in omega arith) c.requires.2 c.loop-v.v c.loop-v.area done c.loop-v.invariant.1

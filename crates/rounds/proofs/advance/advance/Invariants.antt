@@ -7,4 +7,4 @@ use Rattle.rounds.proofs.advance.advance.Given as goal
 
 abbrev pub invariant-loop-v : goal.invariant-loop-v
 invariant-loop-v l =
-    Cut l.lent.question.to.now (length l.lent.question.to.now) l.v l.first × Sofar l.lent.question l.lent.steps.table l.fn.area l.r l.v l.area
+    Cut l.lent.question.to.now (length l.lent.question.to.now) l.v l.first × Sofar l.lent.question l.lent.steps.now.table l.fn.area l.r l.v l.area

@@ -19,8 +19,8 @@ invariant_of-offers c =
       few = L.few.1;
       ties = L.columns;
       living =
-          alive_living c.alive-live.result c.args.area.now Z.network.marks Z.condition.states 0 _ (let h = c.requires.2 in omega arith)
-          (rw words at c.alive-live.ensures);
+          alive_living c.alive.new.live c.args.area.now Z.network.marks Z.condition.states 0 _ (let h = c.requires.2 in omega arith)
+          (rw words at c.alive.ensures);
       narrow = L.leads.narrow;
     }
 
@@ -33,8 +33,8 @@ cut_after c =
 -- what the comparison tells
 judged : (c : After-differs) → let L = c.args.lent.now in
     let v = c.loop-v.v in
-    (c.differs.result ≡ false → Passed L.question L.steps.table c.args.area.now c.args.r v → Passed L.question L.steps.table c.args.area.now c.args.r (v + 1))
-    × (c.differs.result ≡ true → Tells L.question L.steps.table false c.args.r c.args.area.now)
+    (c.differs.result ≡ false → Passed L.question L.steps.now.table c.args.area.now c.args.r v → Passed L.question L.steps.now.table c.args.area.now c.args.r (v + 1))
+    × (c.differs.result ≡ true → Tells L.question L.steps.now.table false c.args.r c.args.area.now)
 judged c =
     let L = c.args.lent.now in
     let A = c.args.area.now in
@@ -47,8 +47,8 @@ judged c =
     (subst (λ (k : ℕ). Row c.opening-row.result C.states (opening c.tested-s.result.0 C.start k)) c.tested-m.ensures.is c.opening-row.ensures) in
     let words = c.of-words.ensures.2 in
     let part : c.row.result.now ≡ row A C.states v = rw words at c.row.ensures.words ∙ ap (λ (k : ℕ). row A C.states k) c.tested-m.ensures.is in
-    compared Z L.steps.table A c.args.r size c.requires.2 L.steps.sources c.alive-live.result (length Z.to.now) L.leads
-    (rw words at c.alive-live.ensures) (sym L.same) v c.loop-v.first c.end-end.result c.opening-row.result c.lower_row.new.row _
+    compared Z L.steps.now.table A c.args.r size c.requires.2 L.steps.now.sources c.alive.new.live (length Z.to.now) L.leads
+    (rw words at c.alive.ensures) (sym L.same) v c.loop-v.first c.end-end.result c.opening-row.result c.lower_row.new.row _
     c.loop-v-test.true c.loop-v.invariant.0 (cut_after c) opened (rw words at c.lower_row.ensures) part c.differs.result c.differs.ensures
 
 pub returns-then-differs : goal.returns-then-differs
@@ -64,5 +64,5 @@ returns c =
     let L = c.args.lent.now in
     let Z = L.question in
     let done : c.loop-v.v ≡ Z.network.marks = omega arith in
-    passed-all Z L.steps.table c.args.area.now c.args.r
+    passed-all Z L.steps.now.table c.args.area.now c.args.r
     (sized Z.network.marks Z.network.kinds Z.condition.states c.args.area.now L.few c.requires.0) c.requires.2 c.loop-v.v done c.loop-v.invariant.1

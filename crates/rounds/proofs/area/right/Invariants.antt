@@ -6,4 +6,4 @@ use Rattle.rounds.proofs.Judging.{Passed}
 use Rattle.rounds.proofs.area.right.Given as goal
 
 abbrev pub invariant-loop-v : goal.invariant-loop-v
-invariant-loop-v l = Cut l.lent.question.to.now (length l.lent.question.to.now) l.v l.first × Passed l.lent.question l.lent.steps.table l.area l.r l.v
+invariant-loop-v l = Cut l.lent.question.to.now (length l.lent.question.to.now) l.v l.first × Passed l.lent.question l.lent.steps.now.table l.area l.r l.v

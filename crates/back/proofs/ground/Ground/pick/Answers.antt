@@ -11,12 +11,12 @@ use Rattle.back.proofs.ground.Ground.pick.Goals.{After-of_run}
 
 -- what is picked, by what was found in the run
 found : (c : After-of_run) (r : Option (ℕ × ℕ)) → c.of_run.result ≡ r
-    → let A = c.args in PickedBy (net A.self.now) (back A.self.now) A.low A.at.mark.0 A.i A.at.alive c.run-run.result.start r
+    → let A = c.args in PickedBy (net A.self.now) (back A.self.now) A.low A.at.mark.0 A.i A.at.alive c.run-run.result.first r
 found c r e =
     let A = c.args in
     let g = A.self.now in
     let R = c.run-run.ensures in
-    let a = c.run-run.result.start in
+    let a = c.run-run.result.first in
     let b = c.run-run.result.end in
     let over = over_tie g.step.steps.now.table g.step.words.area.now g.step.words.states in
     picked-by (net g) (back g) A.low A.at.mark.0 A.i A.at.alive a b (rw g.same at R) (over (part g.from.now a b) (part g.kinds.now a b))
