@@ -1,6 +1,8 @@
 // The calls for a caller that holds its moves in an array of its own: the first so many rows of it are lent. One row more than the ceiling, so that
 // a list that is too long is lent as such; past the array's end only the number of moves counts.
 
+ghost use Rattle.std.specs.Prelude.{◌≡◌, suc, min};
+ghost use Rattle.walk.specs.Ceilings.{ceilings};
 ghost use Rattle.walk.specs.Calls.{start, round, first, next};
 ghost use Rattle.walk.specs.Answers.{asked, said_first, said_next, Meets};
 ghost use Rattle.desk.specs.Answers.{said_prepared};
@@ -16,6 +18,13 @@ impl Held {
     pub const ROWS: usize = Condition::MOVES + 1;
 }
 
+// How many rows are lent, where there are so many moves: no more than there are rows.
+fn lent(moves: usize) -> usize
+    ensures { result ≡ min moves (suc ceilings.moves) }
+{
+    moves.min(Held::ROWS)
+}
+
 pub fn start(
     question: &Question,
     rows: [Move; Held::ROWS],
@@ -24,7 +33,7 @@ pub fn start(
 ) -> Result<Prepared, Refused>
     ensures { Meets (start (asked question.now (rows_of moves rows)) area.old) (said_prepared result) area.new }
 {
-    Rounds::start(question, &rows[..moves.min(Held::ROWS)], area)
+    Rounds::start(question, &rows[..lent(moves)], area)
 }
 
 pub fn round(
@@ -36,7 +45,7 @@ pub fn round(
 ) -> Result<Prepared, Refused>
     ensures { Meets (round (asked question.now (rows_of moves rows)) before.done area.old) (said_prepared result) area.new }
 {
-    before.round(question, &rows[..moves.min(Held::ROWS)], area)
+    before.round(question, &rows[..lent(moves)], area)
 }
 
 pub fn first(
@@ -49,7 +58,7 @@ pub fn first(
 ) -> Result<First, Refused>
     ensures { Meets (first (asked question.now (rows_of moves rows)) after.done area.now chain.old) (said_first result) chain.new }
 {
-    after.first(question, &rows[..moves.min(Held::ROWS)], area, chain)
+    after.first(question, &rows[..lent(moves)], area, chain)
 }
 
 pub fn next(
@@ -62,5 +71,5 @@ pub fn next(
 ) -> Result<Next, Refused>
     ensures { Meets (next (asked question.now (rows_of moves rows)) after.done area.now chain.old) (said_next result) chain.new }
 {
-    after.next(question, &rows[..moves.min(Held::ROWS)], area, chain)
+    after.next(question, &rows[..lent(moves)], area, chain)
 }

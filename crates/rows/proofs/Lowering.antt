@@ -1,6 +1,6 @@
 -- Lowering a row by offers: by none, by one, by those of two steps after each other, by those of a loop over the elements of a set or over
 -- numbers. A loop's invariant is that the row is the first one lowered by the offers of what was passed.
-use Prim.Native.Nat.{ℕ, ◌+◌, ◌≤◌, ◌<◌}
+use Prim.Native.Nat.{ℕ, ◌+◌, ◌/◌, ◌^◌, ◌≤◌, ◌<◌}
 use mathlib.Core.Path.{◌≡◌, refl, sym, ◌∙◌, subst, ap}
 use mathlib.Core.Bool.{Bool, true, false, false≢true}
 use mathlib.Core.List.{List}
@@ -14,7 +14,7 @@ use borrow.Author.Tests.{eqb-true, eqb-false, ltb-true, ltb-false}
 use Rattle.walk.specs.Numbers.{has}
 use Rattle.walk.proofs.Numbers.{and_in}
 use Rattle.tables.specs.Sets.{LowestFrom}
-use Rattle.tables.proofs.SetLaws.{has-and, has-none}
+use Rattle.tables.proofs.SetLaws.{has-and, has-none, none_from}
 use Rattle.rows.specs.Offers.{Lowered, One, Each, Between, Along}
 
 lowered_none : (P : ℕ → ℕ → Type 0) (b : List ℕ) → length b ≡ 32 → ((q w : ℕ) → P q w → ⊥) → Lowered P b b
@@ -64,6 +64,16 @@ each_more s at n P b b' b'' W L M = lowered_then (Each s P at) (P n) (Each s P (
         go false e true f = inr (subst (λ (j : ℕ). P j q w) (eqb-true i n f) x)
         go false e false f = let no : ¬ (i ≡ n) = eqb-false i n f in let ge = ltb-false i at e in absurd
             (false≢true (sym (W.between i ge (let m : i < n = omega arith in m)) ∙ t))
+
+pub each_end : (s n : ℕ) (P : ℕ → ℕ → ℕ → Type 0) (b b' : List ℕ) → n ≤ 32 → 0 ≡ s / 2 ^ n → Lowered (Each s P n) b b' → Lowered (Each s P 32) b b'
+each_end s n P b b' l e L = lowered_as (Each s P n) (Each s P 32) b b' L f (λ q w x. (x.0, omega (arith, x.1), x.2, x.3))
+  where
+    f : (q w : ℕ) → Each s P 32 q w → Each s P n q w
+    f q w (i, m, t, x) = go (ltb i n) refl
+      where
+        go : (c : Bool) → ltb i n ≡ c → Each s P n q w
+        go true h = (i, ltb-true i n h, t, x)
+        go false h = absurd (false≢true (sym (none_from s n (sym e) i (ltb-false i n h)) ∙ t))
 
 -- what such a loop keeps: t is the set of the walk, whose elements from `at` on are still to come
 abbrev pub Passed : ℕ → ℕ → ℕ → (ℕ → ℕ → ℕ → Type 0) → List ℕ → List ℕ → Type 0

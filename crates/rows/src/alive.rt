@@ -35,7 +35,7 @@ pub fn of_row(words: &[u16], lo: u16, hi: u16) -> u32
 }
 
 impl<'a> Words<'a> {
-    // The states of each mark are written.
+    // The states of each mark, written where the caller has them.
     pub fn alive(&self, lo: u16, hi: u16, live: &mut [u32; Network::MARKS])
         ensures { Alive live.new self.now.area.now self.now.marks self.now.states lo hi }
     {

@@ -3,4 +3,5 @@ pub mod RunLaws
 pub mod Searches
 pub mod SetLaws
 pub mod StepLaws
+pub mod TestLaws
 pub mod Verdicts

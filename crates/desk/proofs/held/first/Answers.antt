@@ -9,4 +9,4 @@ pub returns : goal.returns
 returns c =
     let A = c.args in
     let len : length A.rows ≡ 257 = omega arith in
-    meets_as _ _ _ _ (sym (first_alike _ _ _ _ _ _ (lent_rows _ A.moves A.rows c.min.ensures len) _ _ _)) c.first.ensures
+    meets_as _ _ _ _ (sym (first_alike _ _ _ _ _ _ (lent_rows _ A.moves A.rows c.lent.ensures len) _ _ _)) c.first.ensures
